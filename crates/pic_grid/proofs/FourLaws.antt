@@ -11,11 +11,11 @@ use Rattle.pic_num.specs.declared.axis.Axis.TheVariants.{X, Y, Z}
 use Rattle.pic_num.specs.Sizes.{IsAtMost}
 use Rattle.pic_num.specs.Space.{Triple, Spot, spot, axis_number}
 use Rattle.pic_num.proofs.ProductLaws.{+ℤ-*ℤ}
-use Rattle.pic_num.proofs.SizeLaws.{at_most_more}
+use Rattle.pic_num.proofs.SizeLaws.{at_most_more, codes, code_at_most}
 use Rattle.pic_grid.specs.Cells.{count_of, index_of, place_of}
 use Rattle.pic_grid.specs.Block.{InZone, inner_of}
 use Rattle.pic_grid.specs.BlockLayers.{NumbersAtMost}
-use Rattle.pic_grid.specs.Fours.{IsBase, number_from, base_number, step_by, added_in}
+use Rattle.pic_grid.specs.Fours.{IsBase, number_from, base_number, step_by, added_in, most_carried, most_of_weight, most_of_four}
 use Rattle.pic_grid.specs.Rows.{step_of, lifted}
 use Rattle.pic_grid.specs.declared.base.Base.{Base}
 use Rattle.pic_grid.proofs.BlockLaws.{inner_within}
@@ -135,6 +135,10 @@ stands_at low n a c found z has e few =
       below = λ yes. subst (λ (k : ℕ). k < 3 * count_of n) (sym (there yes).1) (below yes);
       same = λ yes. (there yes).1;
     }
+
+-- what is carried times a weight is of the size that is added
+pub carried_small : (by weight : ℤ) → IsAtMost by most_carried → IsAtMost weight most_of_weight → IsAtMost (by *ℤ weight) most_of_four
+carried_small by weight h k = code_at_most (search codes depth 8) tt
 
 -- a bound of the numbers of a list, made wider
 pub are_at_most_more : (xs : List ℤ) (m n : ℕ) → m ≤ n → NumbersAtMost m xs → NumbersAtMost n xs

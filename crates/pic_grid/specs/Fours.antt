@@ -40,19 +40,27 @@ step_by b X = pos 1
 step_by b Y = b.row
 step_by b Z = b.layer
 
--- what is added to a component is at most 2^80 in size, and the component itself at most 2^110
+-- what is carried along an axis is at most 2^45 in size, and a weight at most 2^35
+abbrev pub most_carried : ℕ
+most_carried = 2 ^ 45
+
+abbrev pub most_of_weight : ℕ
+most_of_weight = 2 ^ 35
+
+-- so what is added to a component is at most 2^80, and the component itself at most 2^110
 abbrev pub most_of_four : ℕ
 most_of_four = 2 ^ 80
 
 abbrev pub most_before_four : ℕ
 most_before_four = 2 ^ 110
 
--- four values of that size
+-- what is carried and four weights, of those sizes
 pub record AreSmall (f : Four) : Type 0 where
-  pub low_low : IsAtMost f.low_low most_of_four
-  pub high_low : IsAtMost f.high_low most_of_four
-  pub low_high : IsAtMost f.low_high most_of_four
-  pub high_high : IsAtMost f.high_high most_of_four
+  pub by : IsAtMost f.by most_carried
+  pub low_low : IsAtMost f.low_low most_of_weight
+  pub high_low : IsAtMost f.high_low most_of_weight
+  pub low_high : IsAtMost f.low_high most_of_weight
+  pub high_high : IsAtMost f.high_high most_of_weight
 
 -- which of the four edges along axis round a cell a zone has
 pub record AreFound (low : Spot) (size : Triple) (axis : Axis) (c : Spot) (f : Found) : Type 0 where
@@ -73,13 +81,14 @@ abbrev pub added_where : Bool → BlockValues → Axis → Spot → ℤ → Bloc
 added_where found b a c v =
     record b { values = added_in found b.values (place_of b.size a (inner_of b.low c)) v }
 
--- four numbers added to the components on an axis, of those that are found: at a cell, at the next
--- cell up the axis after that one (high_low), up the axis after both (low_high), and up both
+-- what is carried times four weights added to the components on an axis, of those that are found:
+-- at a cell, at the next cell up the axis after that one (high_low), up the axis after both
+-- (low_high), and up both
 abbrev pub four_added : BlockValues → Axis → Spot → Found → Four → BlockValues
 four_added b a c found f =
     let second = next_axis a in
     let third = next_axis second in
-    let one = added_where found.low_low b a c f.low_low in
-    let two = added_where found.high_low one a (lifted second c) f.high_low in
-    let three = added_where found.low_high two a (lifted third c) f.low_high in
-    added_where found.high_high three a (lifted second (lifted third c)) f.high_high
+    let one = added_where found.low_low b a c (f.by *ℤ f.low_low) in
+    let two = added_where found.high_low one a (lifted second c) (f.by *ℤ f.high_low) in
+    let three = added_where found.low_high two a (lifted third c) (f.by *ℤ f.low_high) in
+    added_where found.high_high three a (lifted second (lifted third c)) (f.by *ℤ f.high_high)

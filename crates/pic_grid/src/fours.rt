@@ -1,24 +1,26 @@
 //! Four components of a block at once: those on one axis round a cell, of which it has some.
 
-ghost use Rattle.std.specs.Prelude.{◌≡◌, pos, ◌*◌, ◌^◌, ◌<◌, ◌≤ℤ◌, length, unsigned_abs, IsTrue};
+ghost use Rattle.std.specs.Prelude.{◌≡◌, pos, ◌*◌, ◌^◌, ◌<◌, ◌*ℤ◌, ◌≤ℤ◌, length, unsigned_abs, IsTrue};
 ghost use Rattle.pic_num.specs.Sizes.{IsAtMost};
 ghost use Rattle.pic_grid.specs.Block.{AllAtMost};
 ghost use Rattle.pic_grid.specs.BlockLayers.{NumbersAtMost, most_of_layer};
 ghost use Rattle.pic_grid.specs.Cells.{count_of};
-ghost use Rattle.pic_grid.specs.Fours.{IsBase, base_cell, AreSmall, AreFound, added_in, four_added, most_before_four, most_of_four};
+ghost use Rattle.pic_grid.specs.Fours.{IsBase, base_cell, AreSmall, AreFound, added_in, four_added, most_carried, most_of_weight, most_before_four, most_of_four};
 
 use crate::base::{Base, sum};
 use crate::block::Block;
 use pic_num::Axis;
 
-/// Numbers for the four components on one axis round a cell: those low and high on the next axis,
-/// and on the third.
+/// What is carried along an axis, and the weights of the four components on it round a cell: of
+/// those low and high on the next axis, and on the third. What goes to a component is what is
+/// carried times its weight.
 #[derive(Clone, Copy)]
 pub struct Four {
-    pub low_low: i128,
-    pub high_low: i128,
-    pub low_high: i128,
-    pub high_high: i128,
+    pub by: i64,
+    pub low_low: i64,
+    pub high_low: i64,
+    pub low_high: i64,
+    pub high_high: i64,
 }
 
 /// Which of the four components on one axis round a cell a block has.
@@ -31,8 +33,9 @@ pub struct Found {
 }
 
 impl Block {
-    /// Adds to the components on `axis` round a cell, of those that are found, and changes nothing
-    /// else. Numbers are at most 2^80 in size, and the block's at most 2^110.
+    /// Adds to the components on `axis` round a cell, of those that are found, what is carried
+    /// times the weight of each, and changes nothing else. What is carried is at most 2^45 in size,
+    /// a weight at most 2^35, and the block's numbers at most 2^110.
     #[inline(always)]
     pub fn add_four(&mut self, axis: Axis, at: &Base, found: &Found, four: &Four)
         requires base { IsBase self.old.low self.old.size at.now }
@@ -51,23 +54,36 @@ impl Block {
         self.blank = false;
         self.weak = false;
         let values = self.values.as_mut_slice();
-        add_at(values, here, found.low_low, four.low_low);
-        add_at(values, up, found.high_low, four.high_low);
-        add_at(values, high, found.low_high, four.low_high);
-        add_at(values, far, found.high_high, four.high_high);
+        add_at(values, here, found.low_low, four.by, four.low_low);
+        add_at(values, up, found.high_low, four.by, four.high_low);
+        add_at(values, high, found.low_high, four.by, four.low_high);
+        add_at(values, far, found.high_high, four.by, four.high_high);
     }
 }
 
-/// Adds `value` to the number at a place, where it is found.
+/// Adds what is carried times a weight to the number at a place, where it is found: the product of
+/// 128 bits is made only there.
 #[inline(always)]
-fn add_at(values: &mut [i128], place: i64, found: bool, value: i128)
+fn add_at(values: &mut [i128], place: i64, found: bool, by: i64, weight: i64)
     requires least { IsTrue found → pos 0 ≤ℤ place }
     requires below { IsTrue found → unsigned_abs place < length values.old }
-    requires value { IsAtMost value most_of_four }
+    requires by { IsAtMost by most_carried }
+    requires weight { IsAtMost weight most_of_weight }
     requires room { NumbersAtMost most_of_layer values.old }
-    ensures { values.new ≡ added_in found values.old (unsigned_abs place) value }
+    ensures { values.new ≡ added_in found values.old (unsigned_abs place) (by *ℤ weight) }
 {
     if found {
-        values[place as usize] += value;
+        values[place as usize] += product(by, weight);
     }
+}
+
+/// The product of what is carried and a weight, in 128 bits: it is at most 2^80 in size.
+#[inline(always)]
+fn product(by: i64, weight: i64) -> i128
+    requires by { IsAtMost by most_carried }
+    requires weight { IsAtMost weight most_of_weight }
+    ensures value { result ≡ by *ℤ weight }
+    ensures size { IsAtMost result most_of_four }
+{
+    i128::from(by) * i128::from(weight)
 }

@@ -1,4 +1,4 @@
-use Rattle.std.proofs.Common.{◌≡◌, ◌^◌, ◌+ℤ◌, ℕ, ℤ, pos, Bool, true, false, List, to_z, of_z, slice_index_or, slice_set, unsigned_abs, refl, ◌∙◌}
+use Rattle.std.proofs.Common.{◌≡◌, ◌^◌, ◌+ℤ◌, ◌*ℤ◌, ℕ, ℤ, pos, Bool, true, false, List, to_z, of_z, slice_index_or, slice_set, unsigned_abs, refl, ◌∙◌}
 use mir.Syntax.{w64, w128}
 use Rattle.std.proofs.lemmas.Int.{to_z-of_z}
 use Rattle.pic_num.specs.Sizes.{IsAtMost}
@@ -26,10 +26,14 @@ returns-then-found c =
     let xs = c.args.values.now in
     let place : to_z w64 (of_z w64 c.args.place) ≡ c.args.place = to_z-of_z w64 c.args.place c.ranges.place in
     let p = unsigned_abs c.args.place in
+    let added = c.product.result in
+    let is : added ≡ c.args.by *ℤ c.args.weight =
+    c.product.ensures.value ∙ (λ i. to_z-of_z w64 c.args.by c.ranges.by i *ℤ to_z-of_z w64 c.args.weight c.ranges.weight i) in
     (λ i.
     let k = unsigned_abs (place i) in
-    slice_set xs k (to_z w128 (of_z w128 (to_z w128 (of_z w128 (slice_index_or xs k (pos 0))) +ℤ to_z w128 (of_z w128 c.args.value)))))
-    ∙ written c.args.found xs p c.args.value _ c.if-found.true (held (slice_index_or xs p (pos 0)) c.args.value (c.requires.room.at_most p) c.requires.value)
+    slice_set xs k (to_z w128 (of_z w128 (to_z w128 (of_z w128 (slice_index_or xs k (pos 0))) +ℤ to_z w128 (of_z w128 added)))))
+    ∙ written c.args.found xs p (c.args.by *ℤ c.args.weight) _ c.if-found.true
+    (held (slice_index_or xs p (pos 0)) added (c.requires.room.at_most p) c.product.ensures.size ∙ (λ i. slice_index_or xs p (pos 0) +ℤ is i))
 
 pub returns-else-found : goal.returns-else-found
-returns-else-found c = left c.args.found c.args.values.now (unsigned_abs c.args.place) c.args.value c.if-found.false
+returns-else-found c = left c.args.found c.args.values.now (unsigned_abs c.args.place) (c.args.by *ℤ c.args.weight) c.if-found.false

@@ -1,11 +1,10 @@
-use Rattle.std.proofs.Common.{◌≡◌, ◌+◌, ◌*◌, ◌^◌, ◌<◌, ◌+ℤ◌, ℕ, ℤ, Bool, List, to_z, of_z, length, unsigned_abs, sym, ◌∙◌, ap, subst, arith}
+use Rattle.std.proofs.Common.{◌≡◌, ◌+◌, ◌*◌, ◌^◌, ◌<◌, ◌+ℤ◌, ◌*ℤ◌, ℕ, ℤ, Bool, List, to_z, of_z, length, unsigned_abs, sym, ◌∙◌, ap, subst, arith}
 use Rattle.std.specs.Prelude.{IsTrue}
 use Rattle.std.specs.Int.{w64, int_wrap}
 use Rattle.std.specs.Vec.{with_items}
 use Rattle.std.proofs.lemmas.Bool.{false≢true}
 use Rattle.std.proofs.lemmas.Int.{to_z-of_z, fits_signed_from_abs}
 use Rattle.std.proofs.lemmas.List.{with_items_is}
-use mir.Syntax.{w128}
 use mir.Val.{SFits}
 use Rattle.pic_num.specs.Sizes.{IsAtMost}
 use Rattle.pic_num.specs.Space.{Spot, Triple, spot, next_axis}
@@ -14,7 +13,7 @@ use Rattle.pic_grid.specs.BlockLayers.{NumbersAtMost}
 use Rattle.pic_grid.specs.Cells.{count_of, place_of}
 use Rattle.pic_grid.specs.Fours.{added_in, step_by}
 use Rattle.pic_grid.specs.Rows.{lifted}
-use Rattle.pic_grid.proofs.FourLaws.{StandsAt, stands_at, first_is, up_is, added_in_at, length-added_in, added_in_small, are_at_most_more}
+use Rattle.pic_grid.proofs.FourLaws.{StandsAt, stands_at, first_is, up_is, added_in_at, length-added_in, added_in_small, are_at_most_more, carried_small}
 use Rattle.pic_grid.proofs.BlockLayerLaws.{all_numbers}
 use Rattle.pic_grid.proofs.block.Block.add_four.Goals as goal
 use Rattle.pic_grid.proofs.block.Block.add_four.Goals.{After-as_mut_slice-values}
@@ -97,12 +96,17 @@ below_of : (n : Triple) (found : Bool) (q : ℕ) (z : ℤ) (xs : List ℤ) → l
     → unsigned_abs z < length xs
 below_of n found q z xs e h has = subst (λ (k : ℕ). unsigned_abs z < k) (sym e) (h.below has)
 
-step : (n : Triple) (found : Bool) (q : ℕ) (z : ℤ) (xs ys : List ℤ) (v : ℤ) (m : ℕ) → StandsAt n found q z → IsAtMost v (2 ^ 80)
-    → length xs ≡ 3 * count_of n → NumbersAtMost m xs → ys ≡ added_in found xs (unsigned_abs z) (to_z w128 (of_z w128 v))
-    → Step found xs ys q v (3 * count_of n) m
-step n found q z xs ys v m at small long room e =
-    let fits = fits_signed_from_abs w128 v (let size = small.size in omega (arith, size)) in
-    let is : ys ≡ added_in found xs (unsigned_abs z) v = e ∙ ap (added_in found xs (unsigned_abs z)) (to_z-of_z w128 v fits) in
+step : (n : Triple) (found : Bool) (q : ℕ) (z : ℤ) (xs ys : List ℤ) (by weight : ℤ) (m : ℕ) → StandsAt n found q z → IsAtMost by (2 ^ 45)
+    → IsAtMost weight (2 ^ 35) → length xs ≡ 3 * count_of n → NumbersAtMost m xs
+    → ys ≡ added_in found xs (unsigned_abs z) (to_z w64 (of_z w64 by) *ℤ to_z w64 (of_z w64 weight))
+    → Step found xs ys q (by *ℤ weight) (3 * count_of n) m
+step n found q z xs ys by weight m at carried light long room e =
+    let v = by *ℤ weight in
+    let by_fits = fits_signed_from_abs w64 by (let size = carried.size in omega (arith, size)) in
+    let weight_fits = fits_signed_from_abs w64 weight (let size = light.size in omega (arith, size)) in
+    let is : ys ≡ added_in found xs (unsigned_abs z) v =
+    e ∙ (λ i. added_in found xs (unsigned_abs z) (held by by_fits i *ℤ held weight weight_fits i)) in
+    let small = carried_small by weight carried light in
     record {
       is = is ∙ added_in_at found xs (unsigned_abs z) q v at.same;
       long = ap length is ∙ length-added_in found xs (unsigned_abs z) v ∙ long;
@@ -116,42 +120,42 @@ place c d = place_of c.args.self.now.size c.args.axis (inner_of c.args.self.now.
 -- what the additions leave, one after the other
 first : (c : After-as_mut_slice-values) (ys : List ℤ)
     → ys ≡ added_in c.args.found.now.low_low c.as_mut_slice-values.result.now (unsigned_abs (to_z w64 (of_z w64 c.first-here.result)))
-    (to_z w128 (of_z w128 c.args.four.now.low_low))
+    (to_z w64 (of_z w64 c.args.four.now.by) *ℤ to_z w64 (of_z w64 c.args.four.now.low_low))
     → Step c.args.found.now.low_low c.as_mut_slice-values.result.now ys (place c (spot c.args.at.now.cell))
-    c.args.four.now.low_low (3 * count_of c.args.self.now.size) (2 ^ 110)
+    (c.args.four.now.by *ℤ c.args.four.now.low_low) (3 * count_of c.args.self.now.size) (2 ^ 110)
 first c ys e =
     let k = known c in
-    step c.args.self.now.size _ _ _ _ ys _ (2 ^ 110) k.low_low c.requires.small.low_low k.whole k.room e
+    step c.args.self.now.size _ _ _ _ ys _ _ (2 ^ 110) k.low_low c.requires.small.by c.requires.small.low_low k.whole k.room e
 
 second : (c : After-as_mut_slice-values) (xs ys : List ℤ) → length xs ≡ 3 * count_of c.args.self.now.size
     → NumbersAtMost (2 ^ 110 + 2 ^ 80) xs
     → ys ≡ added_in c.args.found.now.high_low xs (unsigned_abs (to_z w64 (of_z w64 c.sum-up.result)))
-    (to_z w128 (of_z w128 c.args.four.now.high_low))
+    (to_z w64 (of_z w64 c.args.four.now.by) *ℤ to_z w64 (of_z w64 c.args.four.now.high_low))
     → Step c.args.found.now.high_low xs ys (place c (lifted (next_axis c.args.axis) (spot c.args.at.now.cell)))
-    c.args.four.now.high_low (3 * count_of c.args.self.now.size) (2 ^ 110 + 2 ^ 80)
+    (c.args.four.now.by *ℤ c.args.four.now.high_low) (3 * count_of c.args.self.now.size) (2 ^ 110 + 2 ^ 80)
 second c xs ys long room e =
     let k = known c in
-    step c.args.self.now.size _ _ _ xs ys _ (2 ^ 110 + 2 ^ 80) k.high_low c.requires.small.high_low long room e
+    step c.args.self.now.size _ _ _ xs ys _ _ (2 ^ 110 + 2 ^ 80) k.high_low c.requires.small.by c.requires.small.high_low long room e
 
 third : (c : After-as_mut_slice-values) (xs ys : List ℤ) → length xs ≡ 3 * count_of c.args.self.now.size
     → NumbersAtMost (2 ^ 110 + 2 ^ 80 + 2 ^ 80) xs
     → ys ≡ added_in c.args.found.now.low_high xs (unsigned_abs (to_z w64 (of_z w64 c.sum-high.result)))
-    (to_z w128 (of_z w128 c.args.four.now.low_high))
+    (to_z w64 (of_z w64 c.args.four.now.by) *ℤ to_z w64 (of_z w64 c.args.four.now.low_high))
     → Step c.args.found.now.low_high xs ys (place c (lifted (next_axis (next_axis c.args.axis)) (spot c.args.at.now.cell)))
-    c.args.four.now.low_high (3 * count_of c.args.self.now.size) (2 ^ 110 + 2 ^ 80 + 2 ^ 80)
+    (c.args.four.now.by *ℤ c.args.four.now.low_high) (3 * count_of c.args.self.now.size) (2 ^ 110 + 2 ^ 80 + 2 ^ 80)
 third c xs ys long room e =
     let k = known c in
-    step c.args.self.now.size _ _ _ xs ys _ (2 ^ 110 + 2 ^ 80 + 2 ^ 80) k.low_high c.requires.small.low_high long room e
+    step c.args.self.now.size _ _ _ xs ys _ _ (2 ^ 110 + 2 ^ 80 + 2 ^ 80) k.low_high c.requires.small.by c.requires.small.low_high long room e
 
 fourth : (c : After-as_mut_slice-values) (xs ys : List ℤ) → length xs ≡ 3 * count_of c.args.self.now.size
     → NumbersAtMost (2 ^ 110 + 2 ^ 80 + 2 ^ 80 + 2 ^ 80) xs
     → ys ≡ added_in c.args.found.now.high_high xs (unsigned_abs (to_z w64 (of_z w64 c.sum-far.result)))
-    (to_z w128 (of_z w128 c.args.four.now.high_high))
+    (to_z w64 (of_z w64 c.args.four.now.by) *ℤ to_z w64 (of_z w64 c.args.four.now.high_high))
     → Step c.args.found.now.high_high xs ys (place c (lifted (next_axis c.args.axis) (lifted (next_axis (next_axis c.args.axis)) (spot c.args.at.now.cell))))
-    c.args.four.now.high_high (3 * count_of c.args.self.now.size) (2 ^ 110 + 2 ^ 80 + 2 ^ 80 + 2 ^ 80)
+    (c.args.four.now.by *ℤ c.args.four.now.high_high) (3 * count_of c.args.self.now.size) (2 ^ 110 + 2 ^ 80 + 2 ^ 80 + 2 ^ 80)
 fourth c xs ys long room e =
     let k = known c in
-    step c.args.self.now.size _ _ _ xs ys _ (2 ^ 110 + 2 ^ 80 + 2 ^ 80 + 2 ^ 80) k.high_high c.requires.small.high_high long room e
+    step c.args.self.now.size _ _ _ xs ys _ _ (2 ^ 110 + 2 ^ 80 + 2 ^ 80 + 2 ^ 80) k.high_high c.requires.small.by c.requires.small.high_high long room e
 
 pub add_at-requires-clause-least : goal.add_at-requires-clause-least
 add_at-requires-clause-least c = (known (goal.at.add_at-requires-clause-least c).After-as_mut_slice-values).low_low.least
@@ -250,10 +254,10 @@ returns-clause-values c =
     let r = place j (lifted third cell) in
     let s = place j (lifted second (lifted third cell)) in
     let sums = four.is
-    ∙ ap (λ (xs : List ℤ). added_in f.high_high xs s v.high_high) (three.is
-    ∙ ap (λ (xs : List ℤ). added_in f.low_high xs r v.low_high) (two.is
-    ∙ ap (λ (xs : List ℤ). added_in f.high_low xs q v.high_low) (one.is
-    ∙ ap (λ (xs : List ℤ). added_in f.low_low xs (place j cell) v.low_low) (known j).same))) in
+    ∙ ap (λ (xs : List ℤ). added_in f.high_high xs s (v.by *ℤ v.high_high)) (three.is
+    ∙ ap (λ (xs : List ℤ). added_in f.low_high xs r (v.by *ℤ v.low_high)) (two.is
+    ∙ ap (λ (xs : List ℤ). added_in f.high_low xs q (v.by *ℤ v.high_low)) (one.is
+    ∙ ap (λ (xs : List ℤ). added_in f.low_low xs (place j cell) (v.by *ℤ v.low_low)) (known j).same))) in
     let items : (with_items c.self.inside.values c.add_at-4.new.values).items ≡ c.add_at-4.new.values =
     with_items_is c.self.inside.values c.add_at-4.new.values (four.long ∙ sym (known j).whole ∙ c.as_mut_slice-values.ensures.len) in
     λ i. record { low = (c.self.view_is i).low; size = (c.self.view_is i).size; values = (items ∙ sums) i }
