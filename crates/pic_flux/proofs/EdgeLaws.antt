@@ -1,6 +1,6 @@
 -- A value at one edge: what it is, and what a write of it does to a block.
 use Rattle.std.proofs.Common.{◌≡◌, ◌≢◌, ℕ, ◌⊎◌, ◌+◌, ◌*◌, ◌≤◌, length, Bool, true, false, ◌&&◌, unsigned_abs, inl, inr, refl, ap, sym, subst, ◌∙◌, arith}
-use Rattle.std.proofs.Math.IntN.{ℤ, pos, ◌+ℤ◌}
+use Rattle.std.proofs.Math.IntN.{ℤ, pos, ◌+ℤ◌, ◌*ℤ◌}
 use Rattle.std.specs.Prelude.{if◌then◌else◌, ◌≤ℤ◌, ◌<ℤ◌, ◌↔◌, IsTrue}
 use Rattle.std.proofs.lemmas.Bool.{cases_Bool, and_parts, and_from, both_ways, false≢true}
 use Rattle.std.proofs.lemmas.Int.{ints}
@@ -167,7 +167,8 @@ where_adds true b a c v long has =
 where_adds false b a c v long has =
     subst (λ (d : BlockValues). Adds b d (at_edge a c v)) (sym (added_false b a c v)) (missed b a c v (λ z. false≢true (has.1 z)))
 
--- values added to the four edges along an axis round a cell, of those that are found
+-- what is carried times a weight added to each of the four edges along an axis round a cell, of those
+-- that are found
 pub four_adds : (b : BlockValues) (a : Axis) (c : Spot) (found : Found) (f : Four) → length b.values ≡ 3 * count_of b.size
     → AreFound b.low b.size a c found → Adds b (four_added b a c found f) (at_four a c f)
 four_adds b a c found f long has =
@@ -176,21 +177,21 @@ four_adds b a c found f long has =
     let up = lifted second c in
     let high = lifted third c in
     let far = lifted second high in
-    let one = added_where found.low_low b a c f.low_low in
-    let two = added_where found.high_low one a up f.high_low in
-    let three = added_where found.low_high two a high f.low_high in
-    let four = added_where found.high_high three a far f.high_high in
-    let one_long = length-added_in found.low_low b.values (place_of b.size a (inner_of b.low c)) f.low_low ∙ long in
-    let two_long = length-added_in found.high_low one.values (place_of b.size a (inner_of b.low up)) f.high_low ∙ one_long in
-    let three_long = length-added_in found.low_high two.values (place_of b.size a (inner_of b.low high)) f.low_high ∙ two_long in
-    adds_twice b two four (both (at_edge a c f.low_low) (at_edge a up f.high_low))
-    (both (at_edge a high f.low_high) (at_edge a far f.high_high)) (record { low = refl; size = refl })
-    (adds_twice b one two (at_edge a c f.low_low) (at_edge a up f.high_low) (record { low = refl; size = refl })
-    (where_adds found.low_low b a c f.low_low long has.low_low)
-    (where_adds found.high_low one a up f.high_low one_long has.high_low))
-    (adds_twice two three four (at_edge a high f.low_high) (at_edge a far f.high_high) (record { low = refl; size = refl })
-    (where_adds found.low_high two a high f.low_high two_long has.low_high)
-    (where_adds found.high_high three a far f.high_high three_long has.high_high))
+    let one = added_where found.low_low b a c (f.by *ℤ f.low_low) in
+    let two = added_where found.high_low one a up (f.by *ℤ f.high_low) in
+    let three = added_where found.low_high two a high (f.by *ℤ f.low_high) in
+    let four = added_where found.high_high three a far (f.by *ℤ f.high_high) in
+    let one_long = length-added_in found.low_low b.values (place_of b.size a (inner_of b.low c)) (f.by *ℤ f.low_low) ∙ long in
+    let two_long = length-added_in found.high_low one.values (place_of b.size a (inner_of b.low up)) (f.by *ℤ f.high_low) ∙ one_long in
+    let three_long = length-added_in found.low_high two.values (place_of b.size a (inner_of b.low high)) (f.by *ℤ f.low_high) ∙ two_long in
+    adds_twice b two four (both (at_edge a c (f.by *ℤ f.low_low)) (at_edge a up (f.by *ℤ f.high_low)))
+    (both (at_edge a high (f.by *ℤ f.low_high)) (at_edge a far (f.by *ℤ f.high_high))) (record { low = refl; size = refl })
+    (adds_twice b one two (at_edge a c (f.by *ℤ f.low_low)) (at_edge a up (f.by *ℤ f.high_low)) (record { low = refl; size = refl })
+    (where_adds found.low_low b a c (f.by *ℤ f.low_low) long has.low_low)
+    (where_adds found.high_low one a up (f.by *ℤ f.high_low) one_long has.high_low))
+    (adds_twice two three four (at_edge a high (f.by *ℤ f.low_high)) (at_edge a far (f.by *ℤ f.high_high)) (record { low = refl; size = refl })
+    (where_adds found.low_high two a high (f.by *ℤ f.low_high) two_long has.low_high)
+    (where_adds found.high_high three a far (f.by *ℤ f.high_high) three_long has.high_high))
 
 -- two layers are among n from low on
 record HasTwo (low : ℤ) (n : ℕ) (c : ℤ) : Type 0 where

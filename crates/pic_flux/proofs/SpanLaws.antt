@@ -90,19 +90,19 @@ module _ (side : ℕ) (q : ℤ) (s : Piece) (p : Spans) (axis : Axis) (h : AreSp
         weighed side q way f g (along second s.cell) (along second s.from) (along second s.to)
         (along third s.cell) (along third s.from) (along third s.to)
 
-    high_high_is : (four_by p q axis).high_high ≡ corner side q s axis true true
+    high_high_is : (four_by p q axis).by *ℤ (four_by p q axis).high_high ≡ corner side q s axis true true
     unfolding weight_by
     high_high_is = (λ i. carried_is i *ℤ both_is i) ∙ corner_is true true
 
-    high_low_is : (four_by p q axis).high_low ≡ corner side q s axis true false
+    high_low_is : (four_by p q axis).by *ℤ (four_by p q axis).high_low ≡ corner side q s axis true false
     unfolding weight_by
     high_low_is = (λ i. carried_is i *ℤ high_a_is i) ∙ corner_is true false
 
-    low_high_is : (four_by p q axis).low_high ≡ corner side q s axis false true
+    low_high_is : (four_by p q axis).by *ℤ (four_by p q axis).low_high ≡ corner side q s axis false true
     unfolding weight_by
     low_high_is = (λ i. carried_is i *ℤ high_b_is i) ∙ corner_is false true
 
-    low_low_is : (four_by p q axis).low_low ≡ corner side q s axis false false
+    low_low_is : (four_by p q axis).by *ℤ (four_by p q axis).low_low ≡ corner side q s axis false false
     unfolding weight_by
     low_low_is =
         (λ i. carried_is i *ℤ (h.whole i -ℤ high_a_is i -ℤ high_b_is i -ℤ both_is i))
@@ -135,7 +135,7 @@ unfolding both
 still_adds b p q axis cell none = adds_none b (at_four axis cell (four_by p q axis)) (λ a c.
     let high = lifted (next_axis (next_axis axis)) cell in
     no_sum _ _ _ _
-    (at_nothing axis cell (four_by p q axis).low_low a c (nothing q (ends_on p axis).way _ none))
-    (at_nothing axis (lifted (next_axis axis) cell) (four_by p q axis).high_low a c (nothing q (ends_on p axis).way _ none))
-    (at_nothing axis high (four_by p q axis).low_high a c (nothing q (ends_on p axis).way _ none))
-    (at_nothing axis (lifted (next_axis axis) high) (four_by p q axis).high_high a c (nothing q (ends_on p axis).way _ none)))
+    (at_nothing axis cell ((four_by p q axis).by *ℤ (four_by p q axis).low_low) a c (nothing q (ends_on p axis).way _ none))
+    (at_nothing axis (lifted (next_axis axis) cell) ((four_by p q axis).by *ℤ (four_by p q axis).high_low) a c (nothing q (ends_on p axis).way _ none))
+    (at_nothing axis high ((four_by p q axis).by *ℤ (four_by p q axis).low_high) a c (nothing q (ends_on p axis).way _ none))
+    (at_nothing axis (lifted (next_axis axis) high) ((four_by p q axis).by *ℤ (four_by p q axis).high_high) a c (nothing q (ends_on p axis).way _ none)))

@@ -1,5 +1,5 @@
 -- The flux through the twelve edges of a cell, held as values.
-use Rattle.std.specs.Prelude.{ℕ, ℤ, pos, ◌^◌, ◌+ℤ◌, ◌↔◌, Bool, true, IsTrue}
+use Rattle.std.specs.Prelude.{ℕ, ℤ, pos, ◌^◌, ◌+ℤ◌, ◌*ℤ◌, ◌↔◌, Bool, true, IsTrue}
 use Rattle.pic_num.specs.declared.axis.Axis.{Axis}
 use Rattle.pic_num.specs.declared.axis.Axis.TheVariants.{X, Y, Z}
 use Rattle.pic_num.specs.Sizes.{IsAtMost}
@@ -12,15 +12,18 @@ use Rattle.pic_flux.specs.declared.edges.Layers.{Layers}
 use Rattle.pic_flux.specs.declared.cell_flux.CellFlux.{CellFlux}
 use Rattle.pic_flux.specs.Corners.{at_corners, both}
 
--- four values at the edges along axis round a cell, and 0 at every other edge
+-- what is carried times the weight of each at the four edges along axis round a cell, and 0 at
+-- every other edge
 abbrev pub at_four : Axis → Spot → Four → Axis → Spot → ℤ
-at_four axis c f = at_corners axis c f.low_low f.high_low f.low_high f.high_high
+at_four axis c f =
+    at_corners axis c (f.by *ℤ f.low_low) (f.by *ℤ f.high_low) (f.by *ℤ f.low_high)
+    (f.by *ℤ f.high_high)
 
 -- the cell
 abbrev pub flux_cell : CellFlux → Spot
 flux_cell f = spot f.cell
 
--- what the values at the twelve edges of a cell give to each edge: 0 to all others
+-- what the flux through the twelve edges of a cell gives to each edge: 0 to all others
 abbrev pub edge_flux : CellFlux → Axis → Spot → ℤ
 edge_flux f a c =
     let cell = spot f.cell in
@@ -30,7 +33,8 @@ edge_flux f a c =
 abbrev pub most_before_flux : ℕ
 most_before_flux = 2 ^ 100
 
--- all twelve are of a size that sums have room for, and so are the indices of the cell
+-- what is carried, all twelve weights and the indices of the cell are of a size that sums have room
+-- for
 pub record IsModest (f : CellFlux) : Type 0 where
   pub at_x : IsAtMost (spot f.cell).x (2 ^ 24)
   pub at_y : IsAtMost (spot f.cell).y (2 ^ 24)

@@ -50,16 +50,16 @@ ends_on p Z = p.z
 abbrev pub both_of : Ends → Ends → ℤ
 both_of a b = pos 3 *ℤ a.sum *ℤ b.sum +ℤ a.way *ℤ b.way
 
--- what a charge q carries along an axis through its four edges
+-- what a charge q carries along an axis, and the weights of the four edges there, 12 times
 abbrev pub four_by : Spans → ℤ → Axis → Four
 four_by p q axis =
     let a = ends_on p (next_axis axis) in
     let b = ends_on p (next_axis (next_axis axis)) in
-    let carried = q *ℤ (ends_on p axis).way in
     let both = both_of a b in
     record {
-      low_low = carried *ℤ (p.whole -ℤ (a.part -ℤ both) -ℤ (b.part -ℤ both) -ℤ both);
-      high_low = carried *ℤ (a.part -ℤ both);
-      low_high = carried *ℤ (b.part -ℤ both);
-      high_high = carried *ℤ both;
+      by = q *ℤ (ends_on p axis).way;
+      low_low = p.whole -ℤ (a.part -ℤ both) -ℤ (b.part -ℤ both) -ℤ both;
+      high_low = a.part -ℤ both;
+      low_high = b.part -ℤ both;
+      high_high = both;
     }

@@ -15,8 +15,9 @@ use crate::spans::Spans;
 use pic_grid::{Block, Four, Segment};
 use pic_num::{Axis, Sub};
 
-/// The flux through the twelve edges of a cell, in twelfths of a charge times a cubic sub-cell: it
-/// is computed once for all blocks that have some of them.
+/// The flux through the twelve edges of a cell, in twelfths of a charge times a cubic sub-cell:
+/// what is carried along each axis, and the weights of the four edges on it. It is computed once
+/// for all blocks that have some of them.
 #[derive(Clone, Copy)]
 pub struct CellFlux {
     cell: [i32; 3],

@@ -36,6 +36,7 @@ pub fn deposit(sub: Sub, seg: &Segment, q: i32, to: &mut Block)
 }
 
 /// The same where the zone has all edges of the cell: each axis is added as soon as it is known.
+#[inline(always)]
 pub fn deposit_inside(sub: Sub, seg: &Segment, q: i32, to: &mut Block)
     requires inside { IsInCell sub seg.now }
     requires edges { HasEdges to.old.low to.old.size seg.now.cell }

@@ -97,7 +97,8 @@ pub(crate) fn edges_in(to: &Block, axis: Axis, cell: [i32; 3], layers: &Layers) 
     }
 }
 
-/// Adds to the four edges along `axis` round a cell, of which the zone has those that are found.
+/// Adds to the four edges along `axis` round a cell, of which the zone has those that are found,
+/// what is carried times the weight of each.
 #[inline(always)]
 pub(crate) fn add_corners(to: &mut Block, axis: Axis, at: &Base, found: &Found, flux: &Four)
     requires base { IsBase to.old.low to.old.size at.now }

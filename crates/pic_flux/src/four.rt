@@ -1,16 +1,19 @@
-//! A segment's flux through the four edges of its cell along one axis.
+//! A segment's flux through the four edges of its cell along one axis: what it carries, and a
+//! weight for each edge.
 
 ghost use Rattle.std.specs.Prelude.{◌≡◌, pos, ◌*◌, ◌^◌, ◌+ℤ◌, ◌-ℤ◌, ◌*ℤ◌};
 ghost use Rattle.pic_num.specs.Sizes.{IsAtMost};
-ghost use Rattle.pic_grid.specs.Fours.{AreSmall};
+ghost use Rattle.pic_grid.specs.Fours.{AreSmall, most_carried, most_of_weight};
 ghost use Rattle.pic_flux.specs.Spans.{IsShort, four_by};
 
 use crate::spans::Spans;
 use pic_grid::Four;
 use pic_num::Axis;
 
-/// The flux of the charge `q` on a segment through the four edges of its cell along `axis`. The
-/// weight of the one that is high on both other axes takes two products; the others' take none.
+/// The flux of the charge `q` on a segment through the four edges of its cell along `axis`: what it
+/// carries, in a charge times a sub-cell, and the weight of each edge, in twelfths of a square
+/// sub-cell. The weight of the one that is high on both other axes takes two products; the others'
+/// take none.
 #[inline(always)]
 pub(crate) fn four_of(spans: &Spans, q: i64, axis: Axis) -> Four
     requires short { IsShort spans.now }
@@ -24,35 +27,24 @@ pub(crate) fn four_of(spans: &Spans, q: i64, axis: Axis) -> Four
     let high_a = one_high(a.part, both);
     let high_b = one_high(b.part, both);
     let none = none_high(spans.whole, high_a, high_b, both);
-    let carried = carried(q, spans.on(axis).way);
     Four {
-        low_low: wide_product(carried, none),
-        high_low: wide_product(carried, high_a),
-        low_high: wide_product(carried, high_b),
-        high_high: wide_product(carried, both),
+        by: carried(q, spans.on(axis).way),
+        low_low: none,
+        high_low: high_a,
+        low_high: high_b,
+        high_high: both,
     }
 }
 
-/// What a charge carries along a way.
+/// What a charge carries along a way, in a charge times a sub-cell.
 #[inline(always)]
 fn carried(q: i64, way: i64) -> i64
     requires q { IsAtMost q (2 ^ 31) }
     requires way { IsAtMost way (2 ^ 14) }
     ensures value { result ≡ q *ℤ way }
-    ensures size { IsAtMost result (2 ^ 45) }
+    ensures size { IsAtMost result most_carried }
 {
     q * way
-}
-
-/// The product of what is carried along a way and a weight.
-#[inline(always)]
-fn wide_product(carried: i64, weight: i64) -> i128
-    requires carried { IsAtMost carried (2 ^ 45) }
-    requires weight { IsAtMost weight (2 ^ 35) }
-    ensures value { result ≡ carried *ℤ weight }
-    ensures size { IsAtMost result (2 ^ 80) }
-{
-    i128::from(carried) * i128::from(weight)
 }
 
 /// The weight of the edge that is high on both other axes, 12 times: the mean weights and the
@@ -88,7 +80,7 @@ fn none_high(whole: i64, high_a: i64, high_b: i64, both: i64) -> i64
     requires high_b { IsAtMost high_b (2 ^ 33) }
     requires both { IsAtMost both (2 ^ 32) }
     ensures value { result ≡ whole -ℤ high_a -ℤ high_b -ℤ both }
-    ensures size { IsAtMost result (2 ^ 35) }
+    ensures size { IsAtMost result most_of_weight }
 {
     whole - high_a - high_b - both
 }

@@ -1,5 +1,5 @@
 use Rattle.std.proofs.Common.{◌≡◌, ◌<◌, ◌*◌, ◌^◌, ◌+ℤ◌, ◌-ℤ◌, ◌*ℤ◌, ℕ, ℤ, pos, to_z, of_z, ap, ◌∙◌, arith}
-use mir.Syntax.{w64, w128}
+use mir.Syntax.{w64}
 use Rattle.std.proofs.lemmas.Int.{to_z-of_z, fits_signed_from_abs}
 use Rattle.pic_num.specs.Sizes.{IsAtMost}
 use Rattle.pic_num.specs.Space.{next_axis}
@@ -11,9 +11,6 @@ use Rattle.pic_flux.proofs.four.four_of.Goals as goal
 -- a number as the code passes it on
 held : (x : ℤ) (n : ℕ) → IsAtMost x n → n < 2 ^ 63 → to_z w64 (of_z w64 x) ≡ x
 held x n h few = let size = h.size in to_z-of_z w64 x (fits_signed_from_abs w64 x (omega (arith, size, few)))
-
-held_wide : (x : ℤ) → IsAtMost x (2 ^ 80) → to_z w128 (of_z w128 x) ≡ x
-held_wide x h = let size = h.size in to_z-of_z w128 x (fits_signed_from_abs w128 x (omega (arith, size)))
 
 -- and its size
 small : (x : ℤ) (n : ℕ) → IsAtMost x n → n < 2 ^ 63 → IsAtMost (to_z w64 (of_z w64 x)) n
@@ -54,34 +51,19 @@ none_high-none-requires c = record {
   both = small c.both_high-both.result (2 ^ 32) c.both_high-both.ensures.size (omega arith);
 }
 
-pub carried-carried-requires : goal.carried-carried-requires
-carried-carried-requires c = record {
+pub carried-requires : goal.carried-requires
+carried-requires c = record {
   q = small c.args.q (2 ^ 31) c.requires.charge (omega arith);
   way = small c.on.result.way (2 ^ 14) (c.on.ensures.short c.requires.short).way (omega arith);
 }
 
-pub wide_product-requires : goal.wide_product-requires
-wide_product-requires c = record {
-  carried = small c.carried-carried.result (2 ^ 45) c.carried-carried.ensures.size (omega arith);
-  weight = small c.none_high-none.result (2 ^ 35) c.none_high-none.ensures.size (omega arith);
-}
-
-pub wide_product-requires-2 : goal.wide_product-requires-2
-wide_product-requires-2 c = record {
-  carried = small c.carried-carried.result (2 ^ 45) c.carried-carried.ensures.size (omega arith);
-  weight = small c.one_high-high_a.result (2 ^ 35) (at_most_more _ _ _ (omega arith) c.one_high-high_a.ensures.size) (omega arith);
-}
-
-pub wide_product-requires-3 : goal.wide_product-requires-3
-wide_product-requires-3 c = record {
-  carried = small c.carried-carried.result (2 ^ 45) c.carried-carried.ensures.size (omega arith);
-  weight = small c.one_high-high_b.result (2 ^ 35) (at_most_more _ _ _ (omega arith) c.one_high-high_b.ensures.size) (omega arith);
-}
-
-pub wide_product-requires-4 : goal.wide_product-requires-4
-wide_product-requires-4 c = record {
-  carried = small c.carried-carried.result (2 ^ 45) c.carried-carried.ensures.size (omega arith);
-  weight = small c.both_high-both.result (2 ^ 35) (at_most_more _ _ _ (omega arith) c.both_high-both.ensures.size) (omega arith);
+pub returns-clause-small : goal.returns-clause-small
+returns-clause-small c = record {
+  by = small c.carried.result (2 ^ 45) c.carried.ensures.size (omega arith);
+  low_low = small c.none_high-none.result (2 ^ 35) c.none_high-none.ensures.size (omega arith);
+  high_low = small c.one_high-high_a.result (2 ^ 35) (at_most_more _ _ _ (omega arith) c.one_high-high_a.ensures.size) (omega arith);
+  low_high = small c.one_high-high_b.result (2 ^ 35) (at_most_more _ _ _ (omega arith) c.one_high-high_b.ensures.size) (omega arith);
+  high_high = small c.both_high-both.result (2 ^ 35) (at_most_more _ _ _ (omega arith) c.both_high-both.ensures.size) (omega arith);
 }
 
 pub returns-clause-value : goal.returns-clause-value
@@ -115,11 +97,6 @@ returns-clause-value c =
     ∙ (λ i. whole i -ℤ high_a i -ℤ high_b i -ℤ both i) in
     let way = held c.on.result.way (2 ^ 14) (c.on.ensures.short c.requires.short).way (omega arith) ∙ ap (λ (e : Ends). e.way) c.on.ensures.value in
     let charge = held c.args.q (2 ^ 31) c.requires.charge (omega arith) in
-    let carried : to_z w64 (of_z w64 c.carried-carried.result) ≡ c.args.q *ℤ (ends_on p axis).way =
-    held c.carried-carried.result (2 ^ 45) c.carried-carried.ensures.size (omega arith) ∙ c.carried-carried.ensures.value ∙ (λ i. charge i *ℤ way i) in
-    λ i. record {
-      low_low = (held_wide c.wide_product.result c.wide_product.ensures.size ∙ c.wide_product.ensures.value ∙ (λ j. carried j *ℤ none j)) i;
-      high_low = (held_wide c.wide_product-2.result c.wide_product-2.ensures.size ∙ c.wide_product-2.ensures.value ∙ (λ j. carried j *ℤ high_a j)) i;
-      low_high = (held_wide c.wide_product-3.result c.wide_product-3.ensures.size ∙ c.wide_product-3.ensures.value ∙ (λ j. carried j *ℤ high_b j)) i;
-      high_high = (held_wide c.wide_product-4.result c.wide_product-4.ensures.size ∙ c.wide_product-4.ensures.value ∙ (λ j. carried j *ℤ both j)) i;
-    }
+    let carried : to_z w64 (of_z w64 c.carried.result) ≡ c.args.q *ℤ (ends_on p axis).way =
+    held c.carried.result (2 ^ 45) c.carried.ensures.size (omega arith) ∙ c.carried.ensures.value ∙ (λ i. charge i *ℤ way i) in
+    λ i. record { by = carried i; low_low = none i; high_low = high_a i; low_high = high_b i; high_high = both i }

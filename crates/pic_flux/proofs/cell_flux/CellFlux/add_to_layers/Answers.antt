@@ -1,8 +1,9 @@
-use Rattle.std.proofs.Common.{ℕ, ◌+◌, ◌^◌, subst, arith}
+use Rattle.std.proofs.Common.{ℕ, ◌+◌, ◌^◌, ◌*ℤ◌, subst, arith}
 use Rattle.pic_num.specs.declared.axis.Axis.{Axis}
 use Rattle.pic_num.specs.declared.axis.Axis.TheVariants.{X, Y, Z}
 use Rattle.pic_num.specs.Space.{Spot}
 use Rattle.pic_grid.specs.Block.{BlockValues, IsShaped, AllAtMost}
+use Rattle.pic_grid.proofs.FourLaws.{carried_small}
 use Rattle.pic_grid.proofs.BlockLaws.{all_at_most_more, shaped_twice}
 use Rattle.pic_flux.specs.Adds.{Adds}
 use Rattle.pic_grid.specs.Fours.{base_cell, AreSmall}
@@ -18,7 +19,9 @@ grown : (old now : BlockValues) (axis : Axis) (cell : Spot) (f : Four) (n : ℕ)
     → AllAtMost n old → AllAtMost (n + ((2 ^ 80 + 2 ^ 80) + (2 ^ 80 + 2 ^ 80))) now
 grown old now axis cell f n small shape added room =
     adds_grow old now (at_four axis cell f) n ((2 ^ 80 + 2 ^ 80) + (2 ^ 80 + 2 ^ 80)) shape added
-    (corners_most axis cell f.low_low f.high_low f.low_high f.high_high (2 ^ 80) small.low_low small.high_low small.low_high small.high_high) room
+    (corners_most axis cell (f.by *ℤ f.low_low) (f.by *ℤ f.high_low) (f.by *ℤ f.low_high) (f.by *ℤ f.high_high) (2 ^ 80)
+    (carried_small f.by f.low_low small.by small.low_low) (carried_small f.by f.high_low small.by small.high_low)
+    (carried_small f.by f.low_high small.by small.low_high) (carried_small f.by f.high_high small.by small.high_high)) room
 
 pub add_corners-requires-2-clause-room : goal.add_corners-requires-2-clause-room
 add_corners-requires-2-clause-room c =
