@@ -3,7 +3,7 @@ use Rattle.std.proofs.Common.{◌≡◌, ℕ, ◌^◌, ◌-◌, ◌≤◌, Bool,
 use Rattle.std.specs.Option.{option_or}
 use Rattle.std.proofs.lemmas.Bool.Decides.{nat_tests}
 use Rattle.std.proofs.Math.IntN.{ℤ, pos, ◌-ℤ◌}
-use Rattle.std.specs.Prelude.{◌<ℤ◌, ◌≤ℤ◌}
+use Rattle.std.specs.Prelude.{◌<ℤ◌, ◌≤ℤ◌, IsOk}
 use Rattle.std.proofs.lemmas.Int.{ints}
 use Rattle.pic_num.specs.declared.axis.Axis.{Axis}
 use Rattle.pic_num.specs.declared.axis.Axis.TheVariants.{X, Y, Z}
@@ -17,6 +17,7 @@ use Rattle.pic_num.specs.Rounding.{rounded, scaled}
 use Rattle.pic_num.specs.Sizes.{IsAtMost}
 use Rattle.pic_num.specs.Space.{Spot, along, AreAtMost}
 use Rattle.pic_num.specs.Velocity.{too_fast, IsKeptVelocity}
+use Rattle.pic_num.proofs.FirstLaws.{left_none, right_none, none_unless}
 use Rattle.pic_num.proofs.RoundingLaws.{rounded-is}
 use Rattle.pic_boris.specs.Pushes.{arrived}
 
@@ -61,6 +62,29 @@ none_above what n most p more h =
     let z = not_above most (unsigned_abs p.z) (omega (arith, more, h.z.size)) in
     let halt : Axis → ℤ → Bool → Option Halting = λ axis value b. if b then Some (record { what = what; axis = axis; value = value }) else None in
     λ i. option_or (halt X p.x (x i)) (option_or (halt Y p.y (y i)) (option_or (halt Z p.z (z i)) None))
+
+not_below : (most n : ℕ) → nat_lt most n ≡ false → n ≤ most
+not_below most n h = grind (arith, nat_tests)
+
+-- a vector that fails no test has no larger component
+none_larger : (what : What) (most : ℕ) (p : Spot) → first_above what most p ≡ None → AreAtMost p most
+unfolding first_above first_of
+none_larger what most p none =
+    let after_x = right_none _ _ none in
+    record {
+      x = record { size = not_below most (unsigned_abs p.x) (none_unless _ _ (left_none _ _ none)) };
+      y = record { size = not_below most (unsigned_abs p.y) (none_unless _ _ (left_none _ _ after_x)) };
+      z = record { size = not_below most (unsigned_abs p.z) (none_unless _ _ (left_none _ _ (right_none _ _ after_x))) };
+    }
+
+-- nothing stopped what is there
+unstopped : {A S : Type 0} (o : Option S) (a : A) → IsOk (unless o a) → o ≡ None
+unstopped None a there = refl
+unstopped (Some s) a there = absurd (cc)
+
+-- a velocity that leads anywhere moves no further than a side
+pub arrives_near : (side : ℕ) (v : Spot) → IsOk (arrived side v) → AreAtMost (each (λ c. rounded c (pos velocity_unit)) v) side
+arrives_near side v there = none_larger Far side (each (λ c. rounded c (pos velocity_unit)) v) (unstopped _ _ there)
 
 -- a velocity that moves no further than a side leads there
 pub near_arrives : (side : ℕ) (v : Spot) → AreAtMost (each (λ c. rounded c (pos velocity_unit)) v) side

@@ -1,3 +1,4 @@
 pub mod Vector
 pub mod Narrow
 pub mod Pushes
+pub mod SmallPush

@@ -1,6 +1,6 @@
 //! Three whole numbers of 64 bits by axis, and what the push computes with them.
 
-ghost use Rattle.std.specs.Prelude.{◌≡◌, pos, ◌^◌, ◌-◌, ◌≤◌, ◌+ℤ◌, ◌-ℤ◌, ◌*ℤ◌, IsTrue, unsigned_abs};
+ghost use Rattle.std.specs.Prelude.{◌≡◌, pos, ◌^◌, ◌-◌, ◌≤◌, ◌+ℤ◌, ◌-ℤ◌, ◌*ℤ◌, ◌↔◌, IsTrue, unsigned_abs};
 ghost use Rattle.pic_num.specs.Push.{each, plus, cross};
 ghost use Rattle.pic_num.specs.Rounding.{rounded, scaled};
 ghost use Rattle.pic_num.specs.Sizes.{IsAtMost};
@@ -21,7 +21,7 @@ pub(crate) struct Narrow {
 #[inline(always)]
 pub(crate) fn is_at_most(n: i64, most: u64) -> bool
     requires { most ≤ 2 ^ 62 }
-    ensures { IsTrue result → IsAtMost n most }
+    ensures { IsTrue result ↔ IsAtMost n most }
 {
     let most = most as i64;
     if n < -most {

@@ -1,16 +1,16 @@
 //! The push in 64 bits, of numbers that are small.
 
-ghost use Rattle.std.specs.Prelude.{◌≡◌, pos, ◌^◌, ◌-◌, ◌≤◌, Ok, IfSome, IsTrue};
+ghost use Rattle.std.specs.Prelude.{◌≡◌, pos, ◌^◌, ◌-◌, ◌≤◌, ◌↔◌, Ok, IfSome, IsSome, IsOk, IsTrue};
 ghost use Rattle.pic_num.specs.Limits.{velocity_unit};
 ghost use Rattle.pic_num.specs.Push.{pushed, each};
 ghost use Rattle.pic_num.specs.Rounding.{rounded};
-ghost use Rattle.pic_num.specs.Sizes.{IsAtMost};
 ghost use Rattle.pic_num.specs.Space.{spot, AreAtMost};
 ghost use Rattle.pic_boris.specs.Narrow.{narrow_spot};
 ghost use Rattle.pic_boris.specs.Pushes.{IsInLimits, shift_of, arrived};
+ghost use Rattle.pic_boris.specs.SmallPush.{IsSmallField, IsSmallPush};
 
 use crate::moved::Moved;
-use crate::narrow::{Narrow, narrow_of, narrow_shift, narrow_sum, scaled_narrow};
+use crate::narrow::{Narrow, is_at_most, narrow_of, narrow_shift, narrow_sum, scaled_narrow};
 use crate::narrow_turning::narrow_turned;
 use pic_num::{Mult, Sub};
 
@@ -29,40 +29,22 @@ const MAX_SMALL_TURN: u64 = 1 << 19;
 /// A velocity is in 1 / 2^12 sub-cell per step.
 pub const SPEED_BITS: u32 = 12;
 
-/// Whether three numbers are at most `most` in size. It may be false where one of them is `most`.
-// Raised by it, all are at least 0 and at most twice it, if that holds of their bits put together.
+/// Whether each component of a vector is at most `most` in size.
 #[inline(always)]
-fn are_at_most(x: i64, y: i64, z: i64, most: u64) -> bool
-    requires { most ≤ 2 ^ 61 }
-    ensures x { IsTrue result → IsAtMost x most }
-    ensures y { IsTrue result → IsAtMost y most }
-    ensures z { IsTrue result → IsAtMost z most }
+fn is_small(p: Narrow, most: u64) -> bool
+    requires { most ≤ 2 ^ 62 }
+    ensures { IsTrue result ↔ AreAtMost (narrow_spot p) most }
 {
-    let most = most as i64;
-    let bits = x.wrapping_add(most) | y.wrapping_add(most) | z.wrapping_add(most);
-    if bits < 0 {
-        return false;
-    }
-    bits <= 2 * most
+    is_at_most(p.x, most) && is_at_most(p.y, most) && is_at_most(p.z, most)
 }
 
 /// Whether a gathered field and its multiplier are small.
 #[inline(always)]
-fn is_weak(field: [i64; 3], by: Mult) -> bool
-    ensures field { IsTrue result → AreAtMost (spot field) (2 ^ 28) }
-    ensures by { IsTrue result → by.k ≤ 60 }
+fn is_small_field(field: [i64; 3], by: Mult) -> bool
+    ensures { IsTrue result ↔ IsSmallField (spot field) by }
 {
     let [x, y, z] = field;
-    by.k() <= MAX_SMALL_SHIFT && are_at_most(x, y, z, MAX_SMALL_FIELD)
-}
-
-/// Whether a vector is at most `most` in size, as `are_at_most` tells.
-#[inline(always)]
-fn is_small(p: Narrow, most: u64) -> bool
-    requires { most ≤ 2 ^ 61 }
-    ensures { IsTrue result → AreAtMost (narrow_spot p) most }
-{
-    are_at_most(p.x, p.y, p.z, most)
+    by.k() <= MAX_SMALL_SHIFT && is_small(Narrow { x, y, z }, MAX_SMALL_FIELD)
 }
 
 /// The move of a velocity, in sub-cells.
@@ -91,6 +73,7 @@ fn kept(p: Narrow) -> [i32; 3]
 #[inline(always)]
 fn arrive_narrow(sub: Sub, v: Narrow) -> Option<Moved>
     requires { AreAtMost (narrow_spot v) (2 ^ 61) }
+    ensures some { IsSome result ↔ IsOk (arrived sub (narrow_spot v)) }
     ensures pushed { IfSome result (λ m. arrived sub (narrow_spot v) ≡ Ok (shift_of m)) }
     ensures bounds { IfSome result (IsInLimits sub) }
 {
@@ -105,8 +88,7 @@ fn arrive_narrow(sub: Sub, v: Narrow) -> Option<Moved>
     })
 }
 
-/// What `push` gives, where its numbers are small and the move isn't too far; else `None`, which
-/// says nothing.
+/// What `push` gives, where its numbers are small and the move isn't too far; else `None`.
 #[inline(always)]
 pub fn push_narrow(
     sub: Sub,
@@ -116,11 +98,13 @@ pub fn push_narrow(
     kick: Mult,
     turn: Mult,
 ) -> Option<Moved>
+    ensures some { IsSome result ↔ (IsSmallPush (spot v) (spot e) (spot b) kick turn
+        × IsOk (pushed sub (spot v) (spot e) (spot b) kick turn)) }
     ensures pushed { IfSome result
         (λ m. pushed sub (spot v) (spot e) (spot b) kick turn ≡ Ok (shift_of m)) }
     ensures bounds { IfSome result (IsInLimits sub) }
 {
-    if !is_weak(e, kick) || !is_weak(b, turn) {
+    if !is_small_field(e, kick) || !is_small_field(b, turn) {
         return None;
     }
     let half_kick = scaled_narrow(e, kick);

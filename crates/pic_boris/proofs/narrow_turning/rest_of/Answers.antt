@@ -1,4 +1,4 @@
-use Rattle.std.proofs.Common.{◌≡◌, ℤ, pos, ◌-ℤ◌, ◌*ℤ◌, to_z, of_z, ◌∙◌}
+use Rattle.std.proofs.Common.{◌≡◌, pos, ◌-ℤ◌, ◌*ℤ◌, to_z, of_z, ◌∙◌}
 use mir.Syntax.{w64}
 use Rattle.std.proofs.lemmas.Int.{to_z-of_z}
 use Rattle.pic_num.proofs.SizeLaws.{codes, code_fits, code_is}
