@@ -20,6 +20,7 @@ use Rattle.pic_gather.specs.Forces.{row_sum, layer_sum, whole_sum}
 use Rattle.pic_grid.proofs.SumLaws.{cube_is}
 use Rattle.pic_gather.specs.Cube.{IsCubeOf}
 use Rattle.pic_gather.specs.Mix.{HaveRoom}
+use Rattle.pic_gather.specs.Weak.{most_weak_side}
 use Rattle.pic_gather.specs.declared.cube.Cube.{Cube}
 use Rattle.pic_gather.proofs.HalfLaws.{held, word}
 use Rattle.pic_gather.proofs.TwoTermLaws.{two_terms}
@@ -124,7 +125,7 @@ pub held_sum : (r : ℤ) (m : ℕ) → mag r < 2 ^ 127 → IsAtMost r m → IsAt
 held_sum r m fits small = subst (λ (z : ℤ). IsAtMost z m) (sym (to_z-of_z w128 r (record { sfits = fits }))) small
 
 -- a row's sum of weak values in cells of few sub-cells
-pub weak_row : (r : ℤ) (sum side : ℕ) → mag r < 2 ^ 63 → sum ≡ side → side ≤ 2 ^ 12 → IsAtMost r (most_weak * sum) → IsAtMost (held r) (2 ^ 38)
+pub weak_row : (r : ℤ) (sum side : ℕ) → mag r < 2 ^ 63 → sum ≡ side → side ≤ most_weak_side → IsAtMost r (most_weak * sum) → IsAtMost (held r) (2 ^ 38)
 weak_row r sum side fits is few size =
     held_row r (2 ^ 38) fits (at_most_more r (most_weak * sum) (2 ^ 38) (omega (arith, is, few)) size)
 

@@ -3,13 +3,11 @@
 -- 14, 1966, 302). In a lattice with a part for each layer of z the number of a place in its layer
 -- is the number of its axis times the number of the layer's cells, and what the cell adds on x and
 -- y.
-use Rattle.std.specs.Prelude.{◌≡◌, ℕ, ◌*◌, ◌/◌, ◌^◌, ◌≤◌}
+use Rattle.std.specs.Prelude.{◌≡◌, ℕ, ◌*◌, ◌/◌, ◌≤◌}
 use Rattle.pic_num.specs.Limits.{most_side}
 use Rattle.pic_num.specs.Space.{Triple, Spot}
 use Rattle.pic_grid.specs.Lattice.{Field, value_at}
 use Rattle.pic_grid.specs.Pair.{IsPair, IsPairOf}
-use Rattle.pic_grid.specs.Parts.{IsWeakLayer}
-use Rattle.pic_grid.specs.declared.pair.Pair.{Pair}
 use Rattle.pic_gather.specs.Forces.{gathered_by}
 use Rattle.pic_gather.specs.declared.sides.Side.{Side}
 use Rattle.pic_gather.specs.declared.sides.Sides.{Sides}
@@ -59,9 +57,3 @@ Gathers f own others gathered =
     (a b : ℕ) (point : Triple) → AreSides f.side f.cells a point own
     → AreSides f.side f.cells b point others
     → gathered ≡ gathered_by f.side f.cells a b (value_at f) point
-
--- the layers of a pair of z are weak, in cells of at most 4096 sub-cells on each axis
-pub record AreWeakLayers (f : Field) (z : Pair) : Type 0 where
-  pub few : f.side ≤ 2 ^ 12
-  pub low : IsWeakLayer f z.low
-  pub high : IsWeakLayer f z.high

@@ -6,21 +6,19 @@ ghost use Rattle.pic_num.specs.Space.{triple, spot, AreAtMost};
 ghost use Rattle.pic_grid.specs.Lattice.{value_at};
 ghost use Rattle.pic_grid.specs.Gather.{gathered_e, gathered_b};
 ghost use Rattle.pic_grid.specs.Hat.{IsInBox};
-ghost use Rattle.pic_grid.specs.Pair.{IsPair};
-ghost use Rattle.pic_grid.specs.Parts.{layered, IsWeakLayer};
+ghost use Rattle.pic_grid.specs.Parts.{layered};
 ghost use Rattle.pic_gather.specs.Cube.{IsCubeOf};
 ghost use Rattle.pic_gather.specs.Forces.{AreForces};
-ghost use Rattle.pic_gather.specs.Sides.{AreSidesOf, AreWeakLayers, Gathers};
+ghost use Rattle.pic_gather.specs.Sides.{AreSidesOf, Gathers};
+ghost use Rattle.pic_gather.specs.Weak.{AreWeakLayers, IsWeak};
 
 use crate::component::component;
 use crate::cube::Cube;
 use crate::layered::{Layers, layered_component};
-use crate::sides::{Places, Sides, places_of};
-use pic_grid::{Lattice, Pair};
+use crate::sides::{Sides, places_of};
+use crate::weak::are_weak;
+use pic_grid::Lattice;
 use pic_num::Axis;
-
-/// The greatest side of a cell under whose weights a sum of weak values fits 64 bits.
-const MAX_WEAK_SIDE: u32 = 1 << 12;
 
 /// The force values of E and of B at a point.
 #[derive(Clone, Copy, Debug, PartialEq, Eq)]
@@ -78,39 +76,58 @@ pub fn gather(force_e: &Lattice, force_b: &Lattice, point: [u32; 3]) -> Gathered
             b: gather_b(force_b, point),
         };
     }
+    gather_layered(force_e, force_b, point, false)
+}
+
+/// The same where both lattices are known to be weak, as `is_weak` says: it asks for no layer, and
+/// sums in 64 bits alone.
+#[inline(always)]
+pub fn gather_weak(force_e: &Lattice, force_b: &Lattice, point: [u32; 3]) -> Gathered
+    requires in_box { IsInBox force_e.now.side force_e.now.cells (triple point) }
+    requires cells { force_b.now.cells ≡ force_e.now.cells }
+    requires side { force_b.now.side ≡ force_e.now.side }
+    requires small_e { AreForces force_e.now }
+    requires small_b { AreForces force_b.now }
+    requires weak_e { IsWeak force_e.now }
+    requires weak_b { IsWeak force_b.now }
+    ensures e { spot result.e
+        ≡ gathered_e force_e.now.side force_e.now.cells (value_at force_e.now) (triple point) }
+    ensures b { spot result.b
+        ≡ gathered_b force_b.now.side force_b.now.cells (value_at force_b.now) (triple point) }
+    ensures size_e { AreAtMost (spot result.e) most_force }
+    ensures size_b { AreAtMost (spot result.b) most_force }
+{
+    gather_layered(force_e, force_b, point, true)
+}
+
+/// The same in lattices with a part for each layer of z, which are known to be weak where `weak` is
+/// set.
+#[inline(always)]
+fn gather_layered(force_e: &Lattice, force_b: &Lattice, point: [u32; 3], weak: bool) -> Gathered
+    requires in_box { IsInBox force_e.now.side force_e.now.cells (triple point) }
+    requires cells { force_b.now.cells ≡ force_e.now.cells }
+    requires side { force_b.now.side ≡ force_e.now.side }
+    requires parts_e { force_e.now.parts ≡ layered force_e.now.cells }
+    requires parts_b { force_b.now.parts ≡ layered force_b.now.cells }
+    requires small_e { AreForces force_e.now }
+    requires small_b { AreForces force_b.now }
+    requires weak_e { IsTrue weak → IsWeak force_e.now }
+    requires weak_b { IsTrue weak → IsWeak force_b.now }
+    ensures e { spot result.e
+        ≡ gathered_e force_e.now.side force_e.now.cells (value_at force_e.now) (triple point) }
+    ensures b { spot result.b
+        ≡ gathered_b force_b.now.side force_b.now.cells (value_at force_b.now) (triple point) }
+    ensures size_e { AreAtMost (spot result.e) most_force }
+    ensures size_b { AreAtMost (spot result.b) most_force }
+{
     let cells = force_e.cells();
     let cube = Cube::of(cells.sub());
     let at = places_of(cells, point);
-    let weak = are_weak(force_e, at) & are_weak(force_b, at);
+    let weak = are_weak(force_e, at, weak) & are_weak(force_b, at, weak);
     Gathered {
         e: layered_components(force_e, cube, at.middles, at.nodes, weak),
         b: layered_components(force_b, cube, at.nodes, at.middles, weak),
     }
-}
-
-/// Whether all layers of z that a point's places lie in are known to be weak, in cells of few enough
-/// sub-cells.
-#[inline(always)]
-fn are_weak(force: &Lattice, at: Places) -> bool
-    requires parts { force.now.parts ≡ layered force.now.cells }
-    requires nodes { IsPair force.now.side force.now.cells.z at.nodes.z }
-    requires middles { IsPair force.now.side force.now.cells.z at.middles.z }
-    ensures nodes { IsTrue result → AreWeakLayers force.now at.nodes.z }
-    ensures middles { IsTrue result → AreWeakLayers force.now at.middles.z }
-{
-    let few = force.cells().sub().side() <= MAX_WEAK_SIDE;
-    few & are_weak_at(force, at.nodes.z) & are_weak_at(force, at.middles.z)
-}
-
-/// Whether the two layers of a pair are known to be weak.
-#[inline(always)]
-fn are_weak_at(force: &Lattice, z: Pair) -> bool
-    requires parts { force.now.parts ≡ layered force.now.cells }
-    requires on { IsPair force.now.side force.now.cells.z z }
-    ensures low { IsTrue result → IsWeakLayer force.now z.low }
-    ensures high { IsTrue result → IsWeakLayer force.now z.high }
-{
-    force.is_weak(z.low) & force.is_weak(z.high)
 }
 
 /// The three components at a point, each by the sides `own` on its own axis, and by `others` on the

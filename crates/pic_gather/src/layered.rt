@@ -9,7 +9,8 @@ ghost use Rattle.pic_grid.specs.Parts.{IsLayer};
 ghost use Rattle.pic_gather.specs.Cube.{IsCubeOf};
 ghost use Rattle.pic_gather.specs.Forces.{AreForces, IsForce, whole_sum};
 ghost use Rattle.pic_grid.specs.Weak.{most_weak};
-ghost use Rattle.pic_gather.specs.Sides.{AreSidesOf, AreWeakLayers};
+ghost use Rattle.pic_gather.specs.Sides.{AreSidesOf};
+ghost use Rattle.pic_gather.specs.Weak.{AreWeakLayers};
 
 use crate::cube::Cube;
 use crate::mix::{mix, weak_sum, wide_mix};

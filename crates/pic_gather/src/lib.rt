@@ -7,5 +7,7 @@ mod gathering;
 mod layered;
 mod mix;
 mod sides;
+mod weak;
 
-pub use gathering::{Gathered, gather, gather_b, gather_e};
+pub use gathering::{Gathered, gather, gather_b, gather_e, gather_weak};
+pub use weak::is_weak;

@@ -4,6 +4,7 @@ ghost use Rattle.std.specs.Prelude.{◌≡◌, ℕ, pos, ◌+◌, ◌*◌, ◌^�
 ghost use Rattle.pic_num.specs.Limits.{most_force, most_side};
 ghost use Rattle.pic_num.specs.Sizes.{IsAtMost};
 ghost use Rattle.pic_gather.specs.Mix.{HaveRoom};
+ghost use Rattle.pic_gather.specs.Weak.{most_weak_side};
 
 use pic_grid::Pair;
 
@@ -33,8 +34,8 @@ pub(crate) fn weak_sum(
     requires high_low_small { IsAtMost high_low (2 ^ 38) }
     requires low_high_small { IsAtMost low_high (2 ^ 38) }
     requires high_high_small { IsAtMost high_high (2 ^ 38) }
-    requires y_most { y.low_weight + y.high_weight ≤ 2 ^ 12 }
-    requires z_most { z.low_weight + z.high_weight ≤ 2 ^ 12 }
+    requires y_most { y.low_weight + y.high_weight ≤ most_weak_side }
+    requires z_most { z.low_weight + z.high_weight ≤ most_weak_side }
     ensures value { result
         ≡ (low_low *ℤ pos y.low_weight +ℤ high_low *ℤ pos y.high_weight) *ℤ pos z.low_weight
         +ℤ (low_high *ℤ pos y.low_weight +ℤ high_high *ℤ pos y.high_weight) *ℤ pos z.high_weight }

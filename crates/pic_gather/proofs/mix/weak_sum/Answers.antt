@@ -6,19 +6,20 @@ use Rattle.pic_num.specs.Sizes.{IsAtMost}
 use Rattle.pic_num.proofs.SizeLaws.{at_most_more}
 use Rattle.pic_grid.specs.declared.pair.Pair.{Pair}
 use Rattle.pic_gather.specs.Mix.{HaveRoom}
+use Rattle.pic_gather.specs.Weak.{most_weak_side}
 use Rattle.pic_gather.proofs.HalfLaws.{held}
 use Rattle.pic_gather.proofs.MixLaws.{held_row}
 use Rattle.pic_gather.proofs.mix.weak_sum.Goals as goal
 use Rattle.pic_gather.proofs.mix.weak_sum.Goals.{After-mix-high}
 
 -- two rows' sums of weak values have room,
-rows_room : (a b : ℤ) (w : Pair) → SFits w64 a → SFits w64 b → IsAtMost a (2 ^ 38) → IsAtMost b (2 ^ 38) → w.low_weight + w.high_weight ≤ 2 ^ 12
+rows_room : (a b : ℤ) (w : Pair) → SFits w64 a → SFits w64 b → IsAtMost a (2 ^ 38) → IsAtMost b (2 ^ 38) → w.low_weight + w.high_weight ≤ most_weak_side
     → HaveRoom (held a) (held b) w
 rows_room a b w a_fits b_fits low high weights =
     record { most = 2 ^ 38; low = held_row a _ a_fits.sfits low; high = held_row b _ b_fits.sfits high; room = omega (arith, weights) }
 
 -- and so has what two of them make
-layer_size : (r : ℤ) (weights : ℕ) → mag r < 2 ^ 63 → weights ≤ 2 ^ 12 → IsAtMost r (2 ^ 38 * weights) → IsAtMost (held r) (2 ^ 50)
+layer_size : (r : ℤ) (weights : ℕ) → mag r < 2 ^ 63 → weights ≤ most_weak_side → IsAtMost r (2 ^ 38 * weights) → IsAtMost (held r) (2 ^ 50)
 layer_size r weights fits few small = held_row r (2 ^ 50) fits (at_most_more r (2 ^ 38 * weights) (2 ^ 50) (omega (arith, few)) small)
 
 pub mix-low-requires : goal.mix-low-requires
