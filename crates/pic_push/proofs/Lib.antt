@@ -17,3 +17,4 @@ pub mod RegionLaws
 pub mod TakeLaws
 pub mod PieceLaws
 pub mod StayLaws
+pub mod ZoneLaws

@@ -1,6 +1,5 @@
-//! The push of one particle by the calls that take any numbers, and the push of one alone, without
-//! its flux. A second caller of the fast calls would have them out of the push of a tile, and cost
-//! each particle of it.
+//! The push of one particle by any numbers, which asks for each whether the force values around it
+//! are weak and the numbers of its push small, and the push of one alone, without its flux.
 
 ghost use Rattle.std.specs.Prelude.{◌≡◌, IfOk};
 ghost use Rattle.pic_grid.specs.Felt.{felt};
@@ -12,8 +11,8 @@ ghost use Rattle.pic_tile.specs.Leaving.{after_its_push};
 ghost use Rattle.pic_tile.specs.Tiling.{cells_of};
 
 use crate::moves::moved;
-use pic_boris::{Halt, Moved, push_wide};
-use pic_gather::{gather_b, gather_e};
+use pic_boris::{Halt, Moved, push};
+use pic_gather::{Gathered, gather};
 use pic_grid::Lattice;
 use pic_num::{Kind, Particle, Sub};
 use pic_tile::Frame;
@@ -38,7 +37,7 @@ pub(crate) fn feel_alone(frame: &Frame, particle: &Particle) -> Result<Moved, Ha
     ensures limits { IfOk result (IsInLimits frame.now.map.side) }
 {
     let sub = frame.cells().sub();
-    feel_wide(
+    feel_any(
         sub,
         frame.kinds(),
         frame.force_e(),
@@ -48,7 +47,7 @@ pub(crate) fn feel_alone(frame: &Frame, particle: &Particle) -> Result<Moved, Ha
 }
 
 // A particle's new velocity and its move, by the force values at its position, or what halts it.
-fn feel_wide(
+fn feel_any(
     sub: Sub,
     kinds: &[Kind],
     force_e: &Lattice,
@@ -59,13 +58,13 @@ fn feel_wide(
     requires can { CanShare force_e.now.side force_e.now.cells kinds.now particle.now }
     requires cells { force_b.now.cells ≡ force_e.now.cells }
     requires sides { force_b.now.side ≡ force_e.now.side }
+    requires parts { force_b.now.parts ≡ force_e.now.parts }
     requires e { AreForces force_e.now }
     requires b { AreForces force_b.now }
     ensures pushed { Pushes (push_of (felt kinds.now force_e.now force_b.now) particle.now) result }
     ensures limits { IfOk result (IsInLimits sub) }
 {
     let kind = kinds[particle.species as usize];
-    let e = gather_e(force_e, particle.x);
-    let b = gather_b(force_b, particle.x);
-    push_wide(sub, particle.v, e, b, kind.kick, kind.turn)
+    let Gathered { e, b } = gather(force_e, force_b, particle.x);
+    push(sub, particle.v, e, b, kind.kick, kind.turn)
 }

@@ -1,10 +1,11 @@
 //! The push of one particle of a tile.
 
-ghost use Rattle.std.specs.Prelude.{◌≡◌, ◌∷◌, IfSome, Ok, Some};
+ghost use Rattle.std.specs.Prelude.{◌≡◌, ◌∷◌, IfSome, IsTrue, Ok, Some};
 ghost use Rattle.pic_num.specs.Space.{triple, spot};
 ghost use Rattle.pic_boris.specs.Pushes.{shift_of, IsInLimits};
 ghost use Rattle.pic_chain.specs.Links.{particle_of};
 ghost use Rattle.pic_grid.specs.declared.stop.Stop.TheVariants.{Push};
+ghost use Rattle.pic_gather.specs.Weak.{IsWeak};
 ghost use Rattle.pic_grid.specs.PushPhase.{push_of, CanShare};
 ghost use Rattle.pic_tile.specs.StopOf.{lesser};
 ghost use Rattle.pic_tile.specs.Directions.{here};
@@ -26,16 +27,21 @@ use pic_grid::{Stop, Zone};
 use pic_num::Particle;
 use pic_tile::{Frame, Parcel, Tile};
 
-/// A particle's new velocity and its move in a frame, where the numbers of its push are small; else
-/// `None`, which says nothing.
+/// A particle's new velocity and its move in a frame, where `weak` says that all force values are
+/// weak and the numbers of its push are small; else `None`, which says nothing.
 #[inline(always)]
-fn feel_in(frame: &Frame, particle: &Particle) -> Option<Moved>
-    requires { let m = frame.now.map in
+fn feel_in(frame: &Frame, weak: bool, particle: &Particle) -> Option<Moved>
+    requires weak_e { IsTrue weak → IsWeak frame.now.force_e }
+    requires weak_b { IsTrue weak → IsWeak frame.now.force_b }
+    requires can { let m = frame.now.map in
         CanShare m.side (cells_of m) frame.now.kinds particle.now }
     ensures pushed { let w = felt_in frame.now in
         IfSome result (λ m. push_of w particle.now ≡ Ok (shift_of m)) }
     ensures limits { IfSome result (IsInLimits frame.now.map.side) }
 {
+    if !weak {
+        return None;
+    }
     let sub = frame.cells().sub();
     feel(
         sub,
@@ -95,35 +101,40 @@ fn stay(node: Box<Node>, halt: Halt, own: &mut Parcel)
     own.chain.push(node);
 }
 
-/// Pushes the particle of a node of a tile, as `push_node` does, whatever the size of the numbers
-/// of its push. It stands apart from the push of most particles.
+/// Pushes the particle of a node of a tile, as `push_node` does, whatever the force values and the
+/// size of the numbers of its push. It stands apart from the push of most particles, and finds the
+/// tile's zone by itself, so that none is kept for it.
 #[inline(never)]
-fn push_node_wide(frame: &Frame, zone: Zone, node: Box<Node>, tile: &mut Tile, own: &mut Parcel)
+fn push_node_wide(frame: &Frame, node: Box<Node>, tile: &mut Tile, own: &mut Parcel)
     requires of { IsOfTile frame.now.map frame.now.kinds tile.old.number (particle_of node.value) }
-    requires low { spot zone.low ≡ lowest_cell frame.now.map tile.old.number }
-    requires size { triple zone.size ≡ frame.now.map.size }
-    requires open { HasParcels (spot zone.low) (triple zone.size) tile.old }
-    requires room { HasHeadroom (spot zone.low) (triple zone.size) here own.old }
+    requires open { let m = frame.now.map in
+        HasParcels (lowest_cell m tile.old.number) m.size tile.old }
+    requires room { let m = frame.now.map in
+        HasHeadroom (lowest_cell m tile.old.number) m.size here own.old }
     ensures own { let w = felt_in frame.now in
         Sends w frame.now.map (particle_of node.value) here own.old own.new }
     ensures others { let w = felt_in frame.now in
         SendsOut w frame.now.map (particle_of node.value) tile.old tile.new }
 {
+    let zone = own.flux.zone();
     match feel_alone(frame, &node.particle()) {
         Ok(by) => follow(frame, zone, node, &by, tile, own),
         Err(halt) => stay(node, halt, own),
     }
 }
 
-/// Pushes the particle of a node of a tile, of which the parcel of no step is held apart. The
-/// numbers of most pushes are small.
+/// Pushes the particle of a node of a tile, of which the parcel of no step is held apart; `weak`
+/// says that all force values are weak. They mostly are, and the numbers of most pushes are small.
 pub(crate) fn push_node(
     frame: &Frame,
+    weak: bool,
     zone: Zone,
     node: Box<Node>,
     tile: &mut Tile,
     own: &mut Parcel,
 )
+    requires weak_e { IsTrue weak → IsWeak frame.now.force_e }
+    requires weak_b { IsTrue weak → IsWeak frame.now.force_b }
     requires of { IsOfTile frame.now.map frame.now.kinds tile.old.number (particle_of node.value) }
     requires low { spot zone.low ≡ lowest_cell frame.now.map tile.old.number }
     requires size { triple zone.size ≡ frame.now.map.size }
@@ -134,8 +145,8 @@ pub(crate) fn push_node(
     ensures others { let w = felt_in frame.now in
         SendsOut w frame.now.map (particle_of node.value) tile.old tile.new }
 {
-    match feel_in(frame, &node.particle()) {
+    match feel_in(frame, weak, &node.particle()) {
         Some(by) => follow(frame, zone, node, &by, tile, own),
-        None => push_node_wide(frame, zone, node, tile, own),
+        None => push_node_wide(frame, node, tile, own),
     }
 }

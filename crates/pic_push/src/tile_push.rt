@@ -9,6 +9,7 @@ ghost use Rattle.pic_tile.specs.Tile.{chain_at};
 ghost use Rattle.pic_tile.specs.Pushed.{IsOfTile, IsPushed};
 ghost use Rattle.pic_push.specs.HeldApart.{IsHeldApart, IsSentOut};
 
+use crate::feeling::has_weak_forces;
 use crate::node_push::push_node;
 use pic_tile::{Dir, Frame, Parcel, Tile};
 
@@ -22,10 +23,11 @@ fn push_chain(frame: &Frame, tile: &mut Tile, own: &mut Parcel)
         IsSentOut w frame.now.map own.old.chain tile.old.number own.new tile.new }
 {
     let _side = frame.cells().sub().side();
+    let weak = has_weak_forces(frame);
     let zone = own.flux.zone();
     let mut rest = own.chain.take();
     while let Some(node) = rest.pop() {
-        push_node(frame, zone, node, tile, own);
+        push_node(frame, weak, zone, node, tile, own);
     }
 }
 

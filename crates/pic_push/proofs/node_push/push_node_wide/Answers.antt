@@ -7,7 +7,14 @@ use Rattle.pic_tile.specs.Directions.{here}
 use Rattle.pic_tile.specs.Frame.{felt_in}
 use Rattle.pic_push.specs.Sends.{Sends}
 use Rattle.pic_push.proofs.SendLaws.{sends_halted, out_halted}
+use Rattle.pic_push.proofs.ZoneLaws.{same_parcels}
 use Rattle.pic_push.proofs.node_push.push_node_wide.Goals as goal
+
+pub follow-requires-clause-open : goal.follow-requires-clause-open
+follow-requires-clause-open c =
+    let zone = c.zone-zone.ensures in
+    let room = c.requires.room in
+    same_parcels _ _ _ _ (sym (zone.low ∙ room.low_is)) (sym (zone.size ∙ room.size_is)) c.args.tile.now c.requires.open
 
 pub returns-in-Err-clause-own : goal.returns-in-Err-clause-own
 returns-in-Err-clause-own c =

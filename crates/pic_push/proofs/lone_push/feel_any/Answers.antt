@@ -8,7 +8,7 @@ use Rattle.pic_grid.specs.Gather.{gathered_b}
 use Rattle.pic_grid.specs.PushPhase.{no_kind, kind_of, push_of}
 use Rattle.pic_boris.specs.Pushes.{Pushes}
 use Rattle.pic_grid.specs.Felt.{felt}
-use Rattle.pic_push.proofs.lone_push.feel_wide.Goals as goal
+use Rattle.pic_push.proofs.lone_push.feel_any.Goals as goal
 
 pub returns-clause-pushed : goal.returns-clause-pushed
 unfolding push_of
@@ -19,10 +19,10 @@ returns-clause-pushed c =
     let number = particle.species in
     let kind : c.index-kinds-particle.result ≡ kind_of kinds particle =
     get_or_read kinds number c.index-kinds-particle.result c.requires.can.species c.index-kinds-particle.is no_kind in
-    let at_e = c.gather_e-e.ensures.value in
-    let at_b = c.gather_b-b.ensures.value ∙ (λ i. gathered_b (c.requires.sides i) (c.requires.cells i) (value_at b) (triple particle.x)) in
-    let told : pushed c.args.sub (spot particle.v) (spot c.gather_e-e.result) (spot c.gather_b-b.result)
+    let at_e = c.gather.ensures.e in
+    let at_b = c.gather.ensures.b ∙ (λ i. gathered_b (c.requires.sides i) (c.requires.cells i) (value_at b) (triple particle.x)) in
+    let told : pushed c.args.sub (spot particle.v) (spot c.gather.result.e) (spot c.gather.result.b)
     c.index-kinds-particle.result.kick c.index-kinds-particle.result.turn
     ≡ push_of (felt kinds c.args.force_e.now b) particle =
     λ i. pushed (c.requires.side i) (spot particle.v) (at_e i) (at_b i) (kind i).kick (kind i).turn in
-    subst (λ (r : Result Shift Halting). Pushes r c.push_wide.result) told c.push_wide.ensures.pushed
+    subst (λ (r : Result Shift Halting). Pushes r c.push.result) told c.push.ensures.pushed
