@@ -4,12 +4,12 @@ use Rattle.std.proofs.lemmas.List.Elements.{All-from_get_or}
 use Rattle.pic_num.specs.declared.axis.Axis.{Axis}
 use Rattle.pic_num.specs.declared.mult.Scales.{Scales}
 use Rattle.pic_num.specs.Space.{Triple}
+use Rattle.pic_block.specs.Block.{BlockValues, outer_of, no_block}
+use Rattle.pic_block.specs.Cells.{count_of}
 use Rattle.pic_grid.specs.declared.stop.Phase.TheVariants.{Electric}
 use Rattle.pic_grid.specs.declared.stop.Stop.{Stop}
-use Rattle.pic_grid.specs.Block.{BlockValues, outer_of}
-use Rattle.pic_grid.specs.Cells.{count_of}
 use Rattle.pic_grid.specs.Lattice.{Field, EachAtMost}
-use Rattle.pic_grid.specs.Parts.{no_block, origin}
+use Rattle.pic_grid.specs.Parts.{origin}
 use Rattle.pic_field.specs.FieldPhases.{full_of, full_in, least_fault, stop_of_full, no_drive, most_raised}
 use Rattle.pic_team.specs.Sharing.{CanShare}
 use Rattle.pic_advance.specs.Blocks.{block_in, EachBlock, IsMade, earlier}

@@ -8,9 +8,8 @@ use Rattle.std.proofs.lemmas.List.Elements.{All-take, All-drop}
 use Rattle.std.proofs.lemmas.Bool.{cases_lt}
 use Rattle.std.specs.Prelude.{replicate}
 use Rattle.std.proofs.lemmas.List.{get_or_append_left, get_or-replicate, get_or_past, length-replicate}
+use Rattle.pic_block.specs.Block.{BlockValues, no_block}
 use Rattle.pic_grid.specs.declared.stop.Stop.{Stop}
-use Rattle.pic_grid.specs.Block.{BlockValues}
-use Rattle.pic_grid.specs.Parts.{no_block}
 use Rattle.pic_advance.specs.Blocks.{block_in, EachBlock, earlier, earliest}
 use Rattle.pic_advance.proofs.EarliestLaws.{earliest_both, earliest_same}
 

@@ -7,10 +7,10 @@ use Rattle.pic_num.specs.Limits.{most_value}
 use Rattle.pic_num.specs.Push.{unless}
 use Rattle.pic_num.specs.Rounding.{scaled}
 use Rattle.pic_num.specs.Space.{Triple}
+use Rattle.pic_block.specs.Block.{BlockValues, outer_of}
+use Rattle.pic_block.specs.Cells.{IsWithin}
 use Rattle.pic_grid.specs.declared.stop.Phase.TheVariants.{Half1, Half2}
 use Rattle.pic_grid.specs.declared.stop.Stop.{Stop}
-use Rattle.pic_grid.specs.Block.{BlockValues, outer_of}
-use Rattle.pic_grid.specs.Cells.{IsWithin}
 use Rattle.pic_grid.specs.Gather.{force_of}
 use Rattle.pic_grid.specs.Lattice.{Field, EachAtMost, value_at, field_of}
 use Rattle.pic_grid.specs.Parts.{origin}

@@ -2,8 +2,8 @@
 use Rattle.std.proofs.Common.{◌≡◌, ℤ, pos, ◌*◌, All, List, ap, ◌∙◌}
 use Rattle.pic_num.specs.declared.axis.Axis.{Axis}
 use Rattle.pic_num.specs.Space.{Triple}
-use Rattle.pic_grid.specs.Block.{BlockValues, inner_at}
-use Rattle.pic_grid.specs.Cells.{count_of, place_of}
+use Rattle.pic_block.specs.Block.{BlockValues, inner_at}
+use Rattle.pic_block.specs.Cells.{count_of, place_of}
 use Rattle.pic_advance.specs.Blocks.{EachBlock, IsMade}
 use Rattle.pic_advance.specs.Driven.{cleared}
 use Rattle.pic_team.specs.Sharing.{CanShare}

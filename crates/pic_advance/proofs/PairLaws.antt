@@ -4,8 +4,8 @@ use Rattle.std.proofs.Common.{refl, sym, ◌∙◌, ap, subst, arith, get_or-set
 use Rattle.std.proofs.Math.Decide.{ℕ_discrete}
 use Rattle.std.proofs.lemmas.Bool.{cases_lt}
 use Rattle.std.proofs.lemmas.List.{length-set}
-use Rattle.pic_grid.specs.Block.{BlockValues}
-use Rattle.pic_grid.specs.Parts.{no_block}
+use Rattle.pic_block.specs.Block.{BlockValues}
+use Rattle.pic_block.specs.Block.{no_block}
 use Rattle.pic_team.specs.Sharing.{IsBeside}
 use Rattle.pic_advance.specs.Blocks.{block_in}
 use Rattle.pic_advance.specs.Pairs.{AllPairs, EachPair}

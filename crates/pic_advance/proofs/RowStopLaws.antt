@@ -5,13 +5,13 @@ use Rattle.pic_num.specs.declared.axis.Axis.{Axis}
 use Rattle.pic_num.specs.Multiplier.{Multiplier}
 use Rattle.pic_num.specs.Space.{Triple, unwrapped}
 use Rattle.pic_num.proofs.LeastLaws.{Finds, finds_along}
+use Rattle.pic_block.specs.Block.{BlockValues, inner_of, outer_of}
+use Rattle.pic_block.specs.Cells.{IsCells, IsWithin, count_of, place_of}
+use Rattle.pic_block.proofs.BlockLaws.{inner_within}
 use Rattle.pic_grid.specs.declared.stop.Phase.{Phase}
 use Rattle.pic_grid.specs.declared.stop.Stop.{Stop}
-use Rattle.pic_grid.specs.Block.{BlockValues, inner_of, outer_of}
-use Rattle.pic_grid.specs.Cells.{IsCells, IsWithin, count_of, place_of}
 use Rattle.pic_grid.specs.Lattice.{IsParts}
 use Rattle.pic_grid.specs.Parts.{origin, ArePartsOf}
-use Rattle.pic_grid.proofs.BlockLaws.{inner_within}
 use Rattle.pic_grid.proofs.NumberedLaws.{Place}
 use Rattle.pic_grid.proofs.PartLaws.{number_of as part_number, block_has, number_below}
 use Rattle.pic_field.specs.FieldPhases.{fault_of, cell_above, lowest, least_fault}

@@ -6,12 +6,12 @@ use Rattle.std.proofs.Math.Seq.{take-append_seam}
 use Rattle.pic_num.specs.declared.axis.Axis.{Axis}
 use Rattle.pic_num.specs.Sizes.{IsAtMost}
 use Rattle.pic_num.specs.Space.{Triple, Spot, unwrapped}
-use Rattle.pic_grid.specs.Block.{BlockValues, IsAmongCells, IsShaped, AllAtMost, inner_of, edge_at, inner_at, outer_of}
-use Rattle.pic_grid.specs.Cells.{Grid, IsCells, IsWithin, count_of, index_of, cell_of}
+use Rattle.pic_block.specs.Block.{BlockValues, IsAmongCells, IsShaped, AllAtMost, inner_of, edge_at, inner_at, outer_of, no_block}
+use Rattle.pic_block.specs.Cells.{Grid, IsCells, IsWithin, count_of, index_of, cell_of}
+use Rattle.pic_block.proofs.BlockLaws.{inner_within}
+use Rattle.pic_block.proofs.CellLaws.{index_of-cell_of}
 use Rattle.pic_grid.specs.Lattice.{Field, IsParts, EachAtMost, grid_of, value_at, field_of}
-use Rattle.pic_grid.specs.Parts.{part_size, corner_of, no_block, ArePartsOf, value_in, joined}
-use Rattle.pic_grid.proofs.BlockLaws.{inner_within}
-use Rattle.pic_grid.proofs.CellLaws.{index_of-cell_of}
+use Rattle.pic_grid.specs.Parts.{part_size, corner_of, ArePartsOf, value_in, joined}
 use Rattle.pic_grid.proofs.LatticeLaws.{is_field_of, length-values_of}
 use Rattle.pic_grid.proofs.PartLaws.{number_of as part_number, block_has, number_below, value_at-joined}
 use Rattle.pic_field.proofs.ZoneLaws.{edge_at-outer}

@@ -3,11 +3,11 @@ use Rattle.std.proofs.Common.{◌≡◌, ℕ, ℤ, pos, ◌+◌, ◌*◌, ◌/�
 use Rattle.std.proofs.lemmas.Int.{ints}
 use Rattle.pic_num.specs.Space.{Triple, Spot, unwrapped}
 use Rattle.pic_num.proofs.SizeLaws.{times_at_most}
-use Rattle.pic_grid.specs.Block.{BlockValues, InZone, IsAmongCells, inner_of, outer_of}
-use Rattle.pic_grid.specs.Cells.{IsCells, IsWithin, count_of, cell_of}
+use Rattle.pic_block.specs.Block.{BlockValues, InZone, IsAmongCells, inner_of, outer_of}
+use Rattle.pic_block.specs.Cells.{IsCells, IsWithin, count_of, cell_of}
+use Rattle.pic_block.proofs.CellLaws.{cell_of_within}
 use Rattle.pic_grid.specs.Lattice.{IsParts}
 use Rattle.pic_grid.specs.Parts.{part_size, ArePartsOf}
-use Rattle.pic_grid.proofs.CellLaws.{cell_of_within}
 use Rattle.pic_grid.proofs.PartLaws.{IsAxisCut, cut}
 use Rattle.pic_advance.specs.Blocks.{block_in}
 

@@ -5,12 +5,11 @@ use Rattle.pic_num.specs.declared.axis.Axis.{Axis}
 use Rattle.pic_num.specs.Limits.{most_value}
 use Rattle.pic_num.specs.Multiplier.{Multiplier}
 use Rattle.pic_num.specs.Space.{Triple, triple, axis_number}
+use Rattle.pic_block.specs.Block.{BlockValues, IsAmongCells, IsShaped, AllAtMost, inner_at, outer_of, no_block}
+use Rattle.pic_block.specs.Cells.{IsWithin}
 use Rattle.pic_grid.specs.declared.stop.Phase.{Phase}
 use Rattle.pic_grid.specs.declared.stop.Stop.{Stop}
 use Rattle.pic_grid.specs.declared.stop.Stop.TheVariants.{Push, Field as field_stop}
-use Rattle.pic_grid.specs.Block.{BlockValues, IsAmongCells, IsShaped, AllAtMost, inner_at, outer_of}
-use Rattle.pic_grid.specs.Cells.{IsWithin}
-use Rattle.pic_grid.specs.Parts.{no_block}
 use Rattle.pic_field.specs.FieldPhases.{lowest, least_fault}
 
 -- the block at an index of a row

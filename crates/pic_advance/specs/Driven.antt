@@ -5,9 +5,9 @@ use Rattle.pic_num.specs.Limits.{most_value}
 use Rattle.pic_num.specs.declared.axis.Axis.{Axis}
 use Rattle.pic_num.specs.declared.mult.Scales.{Scales}
 use Rattle.pic_num.specs.Space.{Triple}
+use Rattle.pic_block.specs.Block.{BlockValues, IsAmongCells, IsShaped, AllAtMost}
+use Rattle.pic_block.specs.Cells.{count_of}
 use Rattle.pic_grid.specs.declared.stop.Stop.{Stop}
-use Rattle.pic_grid.specs.Block.{BlockValues, IsAmongCells, IsShaped, AllAtMost}
-use Rattle.pic_grid.specs.Cells.{count_of}
 use Rattle.pic_grid.specs.Lattice.{Field, EachAtMost, value_at}
 use Rattle.pic_field.specs.FieldPhases.{full_of, IsFullStep, stop_of_full, no_current, no_drive, most_raised}
 use Rattle.pic_advance.specs.Blocks.{block_in, earliest}

@@ -1,7 +1,7 @@
 -- Blocks in two rows, each beside the one of its place in the other row: they are worked on in
 -- pairs.
 use Rattle.std.specs.Prelude.{◌≡◌, ℕ, ◌<◌, List, length}
-use Rattle.pic_grid.specs.Block.{BlockValues}
+use Rattle.pic_block.specs.Block.{BlockValues}
 use Rattle.pic_advance.specs.Blocks.{block_in}
 
 -- each pair is as C says

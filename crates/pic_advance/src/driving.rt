@@ -11,7 +11,8 @@ ghost use Rattle.pic_advance.specs.Phases.{Advances};
 
 use crate::filtering::{clear_values, filter_current};
 use crate::full_step::advance_e;
-use pic_grid::{Block, Lattice, Phase, Stop};
+use pic_block::Block;
+use pic_grid::{Lattice, Phase, Stop};
 use pic_num::Scales;
 use pic_team::Team;
 use std::thread::Threads;

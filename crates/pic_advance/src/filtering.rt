@@ -7,8 +7,9 @@ ghost use Rattle.pic_grid.specs.Lattice.{EachAtMost, field_of, value_at};
 ghost use Rattle.pic_advance.specs.Blocks.{EachBlock, IsAmong, IsMade};
 
 use crate::useful::useful;
+use pic_block::Block;
 use pic_filter::smooth;
-use pic_grid::{Block, Cells, Lattice};
+use pic_grid::{Cells, Lattice};
 use pic_team::{Team, Work, each_share};
 use std::thread::Threads;
 

@@ -8,8 +8,9 @@ ghost use Rattle.pic_grid.specs.Lattice.{EachAtMost, field_of, value_at};
 ghost use Rattle.pic_advance.specs.Blocks.{EachBlock, IsAmong, IsMade};
 
 use crate::useful::useful;
+use pic_block::Block;
 use pic_field::force;
-use pic_grid::{Block, Lattice};
+use pic_grid::Lattice;
 use pic_num::Mult;
 use pic_team::{Team, Work, each_share};
 use std::thread::Threads;

@@ -13,8 +13,9 @@ ghost use Rattle.pic_advance.specs.Phases.{Advances};
 
 use crate::stops::earlier;
 use crate::useful::useful;
+use pic_block::Block;
 use pic_field::{Rooms, free_e_in, full_e_in};
-use pic_grid::{Block, Lattice, Phase, Stop};
+use pic_grid::{Lattice, Phase, Stop};
 use pic_num::Scales;
 use pic_team::{Team, Work, each_share};
 use std::thread::Threads;

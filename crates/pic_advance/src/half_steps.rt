@@ -11,8 +11,9 @@ ghost use Rattle.pic_advance.specs.Pairs.{AllPairs};
 
 use crate::stops::earlier;
 use crate::useful::useful;
+use pic_block::Block;
 use pic_field::{Rooms, both_halves_in};
-use pic_grid::{Block, Lattice, Stop};
+use pic_grid::{Lattice, Stop};
 use pic_num::Scales;
 use pic_team::{Team, Work, each_share};
 use std::thread::Threads;

@@ -1,7 +1,7 @@
 //! How many workers a lattice has enough for.
 
 ghost use Rattle.std.specs.Prelude.{◌≡◌, ◌<◌, ◌≤◌, max};
-ghost use Rattle.pic_grid.specs.Cells.{IsCells};
+ghost use Rattle.pic_block.specs.Cells.{IsCells};
 
 use pic_grid::Cells;
 use pic_num::Workers;

@@ -2,9 +2,9 @@
 
 ghost use Rattle.std.specs.Prelude.{◌≡◌, ◌^◌, IfOk};
 ghost use Rattle.pic_num.specs.Space.{triple, spot};
-ghost use Rattle.pic_grid.specs.Block.{AllAtMost, IsShaped};
+ghost use Rattle.pic_block.specs.Block.{AllAtMost, IsShaped};
 
-use pic_grid::{Block, Zone};
+use pic_block::{Block, Zone};
 use pic_num::{Axis, NoMemory};
 use std::alloc::Global;
 use std::process::Abort;

@@ -4,11 +4,12 @@ ghost use Rattle.std.specs.Prelude.{◌≡◌, ◌^◌, ◌≤◌, ◌+ℤ◌, �
 ghost use Rattle.pic_num.specs.Sizes.{IsAtMost};
 ghost use Rattle.pic_num.specs.Space.{along, spot};
 ghost use Rattle.std.specs.List.{All};
+ghost use Rattle.pic_block.specs.Block.{AllAtMost};
 ghost use Rattle.pic_grid.specs.Segment.{IsInside, IsInCell};
-ghost use Rattle.pic_grid.specs.Block.{AllAtMost};
 
+use pic_block::{Block, Zone};
 use pic_flux::{deposit, deposit_track};
-use pic_grid::{Block, Segment, Track, Zone};
+use pic_grid::{Segment, Track};
 use pic_num::{Axis, NoMemory, Sub};
 use std::alloc::Global;
 use std::process::Abort;

@@ -14,14 +14,14 @@ use Rattle.std.proofs.lemmas.List.FromFn.{get_or-map-range_with_len, length-map-
 use Rattle.pic_num.specs.declared.axis.Axis.{Axis}
 use Rattle.pic_num.specs.declared.motion.Particle.{Particle}
 use Rattle.pic_num.specs.Space.{Triple, Spot}
+use Rattle.pic_block.specs.Block.{BlockValues, inner_of, inner_at}
+use Rattle.pic_block.specs.BlockLayers.{layer_of}
+use Rattle.pic_block.specs.Cells.{IsWithin}
+use Rattle.pic_block.proofs.BlockLaws.{inner_within}
 use Rattle.pic_grid.specs.declared.stop.Stop.{Stop}
-use Rattle.pic_grid.specs.Block.{BlockValues, inner_of, inner_at}
-use Rattle.pic_grid.specs.BlockLayers.{layer_of}
-use Rattle.pic_grid.specs.Cells.{IsWithin}
 use Rattle.pic_grid.specs.Lattice.{values_of}
 use Rattle.pic_grid.specs.PushPhase.{Surroundings, push_of, halt_of}
 use Rattle.pic_grid.specs.Traces.{traces}
-use Rattle.pic_grid.proofs.BlockLaws.{inner_within}
 use Rattle.pic_grid.proofs.LatticeLaws.{value_at-field_of}
 use Rattle.pic_tile.specs.declared.parcel.Parcel.{Parcel}
 use Rattle.pic_tile.specs.Directions.{directions, here}

@@ -10,11 +10,11 @@ use Rattle.pic_num.specs.declared.motion.Kind.{Kind}
 use Rattle.pic_num.specs.Space.{Triple}
 use Rattle.pic_num.proofs.FirstLaws.{first_of_at, none_first_of, first_of_same, first_finds, first_is, none_if, some_if}
 use Rattle.pic_num.proofs.LeastLaws.{Finds, finds_none}
+use Rattle.pic_block.specs.Cells.{IsWithin, count_of, index_of, cell_of}
+use Rattle.pic_block.proofs.CellLaws.{cell_of_within}
 use Rattle.pic_grid.specs.Arrays.{array_of_triple}
 use Rattle.pic_grid.specs.Differences.{div_e}
 use Rattle.pic_grid.specs.Lattice.{Field, value_at}
-use Rattle.pic_grid.specs.Cells.{IsWithin, count_of, index_of, cell_of}
-use Rattle.pic_grid.proofs.CellLaws.{cell_of_within}
 use Rattle.pic_grid.proofs.NumberedLaws.{cells_numbered}
 use Rattle.pic_charge.specs.declared.breaks.Break.{Break}
 use Rattle.pic_charge.specs.Charge.{rho_of}

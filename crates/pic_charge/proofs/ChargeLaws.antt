@@ -11,9 +11,9 @@ use Rattle.pic_num.specs.Limits.{most_charge, most_particles, most_side}
 use Rattle.pic_num.specs.Sizes.{IsAtMost}
 use Rattle.pic_num.proofs.SizeLaws.{times_at_most}
 use Rattle.pic_num.specs.Space.{Triple, triple}
+use Rattle.pic_block.specs.Cells.{IsWithin}
 use Rattle.pic_grid.specs.Hat.{periodic_hat, weight}
 use Rattle.pic_grid.specs.Lattice.{NodeValues, node_at}
-use Rattle.pic_grid.specs.Cells.{IsWithin}
 use Rattle.pic_grid.specs.PushPhase.{kind_of, no_kind}
 use Rattle.pic_grid.specs.Species.{IsKind}
 use Rattle.pic_grid.specs.Sums.{sum_over}

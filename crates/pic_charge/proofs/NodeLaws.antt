@@ -7,9 +7,9 @@ use Rattle.std.proofs.lemmas.Int.{ints}
 use Rattle.std.proofs.lemmas.List.{get_or-set_other}
 use Rattle.pic_num.specs.Space.{Triple}
 use Rattle.pic_num.proofs.ProductLaws.{*ℤ-one, *ℤ-zero}
+use Rattle.pic_block.specs.Cells.{IsWithin, count_of, index_of}
+use Rattle.pic_block.proofs.CellLaws.{index_of_below, index_of_same, cells_more}
 use Rattle.pic_grid.specs.Lattice.{NodeValues, node_at, with_node}
-use Rattle.pic_grid.specs.Cells.{IsWithin, count_of, index_of}
-use Rattle.pic_grid.proofs.CellLaws.{index_of_below, index_of_same, cells_more}
 use Rattle.pic_grid.specs.Hat.{only_at}
 use Rattle.pic_charge.specs.Spread.{spread, Adds}
 

@@ -3,9 +3,9 @@ use Rattle.std.proofs.Common.{◌≡◌, ℕ, ◌+◌, ◌*◌, ◌<◌, sym, �
 use Rattle.pic_num.specs.declared.axis.Axis.{Axis}
 use Rattle.pic_num.specs.declared.axis.Axis.TheVariants.{X, Y, Z}
 use Rattle.pic_num.specs.Space.{Triple}
-use Rattle.pic_grid.specs.Cells.{IsWithin, count_of, index_of, cell_of, place_of}
-use Rattle.pic_grid.proofs.CellLaws.{cell_of-index_of}
-use Rattle.pic_grid.proofs.PlaceLaws.{IsPlace, next_place}
+use Rattle.pic_block.specs.Cells.{IsWithin, count_of, index_of, cell_of, place_of}
+use Rattle.pic_block.proofs.CellLaws.{cell_of-index_of}
+use Rattle.pic_block.proofs.PlaceLaws.{IsPlace, next_place}
 
 -- the places of the first axis are the nodes
 number_of : (n : Triple) (i : ℕ) (a : Axis) (p : Triple) → i < count_of n → place_of n a p ≡ i → index_of n p ≡ i

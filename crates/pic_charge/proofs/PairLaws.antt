@@ -7,8 +7,8 @@ use mir.Val.{to_z, of_z}
 use Rattle.pic_num.specs.declared.motion.Particle.{Particle}
 use Rattle.pic_num.specs.declared.motion.Kind.{Kind}
 use Rattle.pic_num.specs.Space.{Triple, triple}
+use Rattle.pic_block.specs.Cells.{IsWithin}
 use Rattle.pic_grid.specs.Hat.{periodic_hat, weight}
-use Rattle.pic_grid.specs.Cells.{IsWithin}
 use Rattle.pic_grid.specs.PushPhase.{kind_of}
 use Rattle.pic_grid.specs.declared.pair.Pair.{Pair}
 use Rattle.pic_charge.specs.Charge.{share}

@@ -9,8 +9,8 @@ use Rattle.pic_num.proofs.SizeLaws.{times_at_most}
 use Rattle.pic_num.specs.Limits.{most_side}
 use Rattle.pic_num.specs.Sizes.{IsAtMost}
 use Rattle.pic_num.specs.Space.{Triple}
+use Rattle.pic_block.specs.Cells.{IsWithin}
 use Rattle.pic_grid.specs.Lattice.{NodeValues, node_at}
-use Rattle.pic_grid.specs.Cells.{IsWithin}
 use Rattle.pic_grid.specs.declared.pair.Pair.{Pair}
 use Rattle.pic_grid.specs.Hat.{only_at}
 use Rattle.pic_grid.specs.Pair.{weight_in}

@@ -10,10 +10,10 @@ use Rattle.pic_num.specs.declared.motion.Kind.{Kind}
 use Rattle.pic_num.proofs.SizeLaws.{codes, code_is, times_at_most}
 use Rattle.pic_num.specs.Sizes.{IsAtMost}
 use Rattle.pic_num.specs.Space.{Triple}
+use Rattle.pic_block.specs.Cells.{IsWithin, count_of, index_of}
+use Rattle.pic_block.proofs.CellLaws.{index_of_below}
 use Rattle.pic_grid.specs.Lattice.{NodeValues, node_at, with_node}
-use Rattle.pic_grid.specs.Cells.{IsWithin, count_of, index_of}
 use Rattle.pic_grid.specs.Hat.{only_at}
-use Rattle.pic_grid.proofs.CellLaws.{index_of_below}
 use Rattle.pic_charge.specs.Spread.{spread, Adds}
 use Rattle.pic_charge.specs.Sums.{nodes_in, SumsAtMost, StaySmall}
 use Rattle.pic_charge.proofs.ChargeLaws.{cube_most, charge_of_size, HoldsCharge, holds_none}

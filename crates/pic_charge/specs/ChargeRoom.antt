@@ -1,6 +1,6 @@
 -- Room for the charge that E is held against.
 use Rattle.std.specs.Prelude.{◌≡◌, ℤ, ℕ, List, Option, IfSome, length}
-use Rattle.pic_grid.specs.Cells.{Grid, count_of}
+use Rattle.pic_block.specs.Cells.{Grid, count_of}
 use Rattle.pic_grid.specs.Lattice.{NodeValues}
 
 -- whose nodes there is room for, and with which filter

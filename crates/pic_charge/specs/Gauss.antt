@@ -8,10 +8,10 @@ use Rattle.pic_num.specs.declared.motion.Particle.{Particle}
 use Rattle.pic_num.specs.declared.motion.Kind.{Kind}
 use Rattle.pic_num.specs.First.{first_of}
 use Rattle.pic_num.specs.Space.{Triple, triple}
+use Rattle.pic_block.specs.Cells.{IsWithin, count_of, index_of, cell_of}
 use Rattle.pic_grid.specs.Arrays.{array_of_triple}
 use Rattle.pic_grid.specs.Differences.{div_e}
 use Rattle.pic_grid.specs.Lattice.{Field, value_at}
-use Rattle.pic_grid.specs.Cells.{IsWithin, count_of, index_of, cell_of}
 use Rattle.pic_charge.specs.declared.breaks.Break.{Break}
 use Rattle.pic_charge.specs.Charge.{rho_of}
 

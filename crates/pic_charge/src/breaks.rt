@@ -5,12 +5,13 @@ ghost use Rattle.pic_num.specs.declared.axis.Axis.{Axis as AxisName};
 ghost use Rattle.pic_num.specs.Limits.{most_value};
 ghost use Rattle.pic_num.specs.Sizes.{IsAtMost};
 ghost use Rattle.pic_num.specs.Space.{Triple, triple};
+ghost use Rattle.pic_block.specs.Cells.{IsWithin};
 ghost use Rattle.pic_grid.specs.Differences.{div_e, down};
 ghost use Rattle.pic_grid.specs.Lattice.{value_at, node_at};
-ghost use Rattle.pic_grid.specs.Cells.{IsWithin};
 ghost use Rattle.pic_charge.specs.Gauss.{difference_at, first_break, Agree, IsLeastBreak};
 
-use pic_grid::{Cells, Lattice, Nodes, Place};
+use pic_block::Place;
+use pic_grid::{Cells, Lattice, Nodes};
 use pic_num::Axis;
 
 /// A node where the divergence of E and the charge differ, and the two numbers, in twelfths of a charge

@@ -4,15 +4,16 @@ ghost use Rattle.std.specs.Prelude.{◌≡◌, pos, ◌^◌, ◌≤◌, All, len
 ghost use Rattle.pic_num.specs.Limits.{most_particles};
 ghost use Rattle.pic_num.specs.Sizes.{IsAtMost};
 ghost use Rattle.pic_num.specs.Space.{Triple};
+ghost use Rattle.pic_block.specs.Cells.{IsWithin};
 ghost use Rattle.pic_grid.specs.Lattice.{node_at};
-ghost use Rattle.pic_grid.specs.Cells.{IsWithin};
 ghost use Rattle.pic_grid.specs.PushPhase.{CanShare};
 ghost use Rattle.pic_charge.specs.Charge.{share, charge_of, most_node_charge, IsCharged};
 ghost use Rattle.pic_charge.specs.Spread.{NodesAtMost, Adds};
 
 use crate::cloud::cloud_of;
 use crate::spread::add_box;
-use pic_grid::{Cells, Nodes, Place};
+use pic_block::Place;
+use pic_grid::{Cells, Nodes};
 use pic_num::{Kind, Particle};
 
 /// Makes the nodes the charge of the particles, in twelfths of a charge times a cubic sub-cell, whatever

@@ -4,7 +4,7 @@ ghost use Rattle.std.specs.Prelude.{◌≡◌, pos, ◌^◌, ◌*ℤ◌, All};
 ghost use Rattle.pic_num.specs.Limits.{most_charge};
 ghost use Rattle.pic_num.specs.Sizes.{IsAtMost};
 ghost use Rattle.pic_num.specs.Space.{Triple};
-ghost use Rattle.pic_grid.specs.Cells.{IsWithin};
+ghost use Rattle.pic_block.specs.Cells.{IsWithin};
 ghost use Rattle.pic_grid.specs.Pair.{weight_in};
 ghost use Rattle.pic_grid.specs.PushPhase.{kind_of, CanShare};
 ghost use Rattle.pic_charge.specs.Charge.{share, IsCharged};

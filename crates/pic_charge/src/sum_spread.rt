@@ -3,7 +3,7 @@
 ghost use Rattle.std.specs.Prelude.{◌≡◌, ◌^◌, ◌+◌, ◌*◌, ◌<◌, length};
 ghost use Rattle.pic_num.specs.Sizes.{IsAtMost};
 ghost use Rattle.pic_num.specs.Space.{triple};
-ghost use Rattle.pic_grid.specs.Cells.{IsWithin, count_of, index_of};
+ghost use Rattle.pic_block.specs.Cells.{IsWithin, count_of, index_of};
 ghost use Rattle.pic_grid.specs.Hat.{only_at};
 ghost use Rattle.pic_grid.specs.Pair.{weight_in};
 ghost use Rattle.pic_charge.specs.Spread.{spread, CanSpread, Adds};

@@ -5,8 +5,8 @@ ghost use Rattle.pic_num.specs.Limits.{most_particles};
 ghost use Rattle.pic_num.specs.Sizes.{IsAtMost};
 ghost use Rattle.pic_num.specs.Space.{Triple};
 ghost use Rattle.pic_num.specs.declared.motion.Kind.{Kind as KindName};
+ghost use Rattle.pic_block.specs.Cells.{IsWithin, count_of};
 ghost use Rattle.pic_grid.specs.Lattice.{node_at};
-ghost use Rattle.pic_grid.specs.Cells.{IsWithin, count_of};
 ghost use Rattle.pic_grid.specs.PushPhase.{CanShare};
 ghost use Rattle.pic_charge.specs.Charge.{share, charge_of, most_node_charge, IsCharged};
 ghost use Rattle.pic_charge.specs.Spread.{Adds};
@@ -15,7 +15,8 @@ ghost use Rattle.pic_charge.specs.Sums.{nodes_in, SumsAtMost, StaySmall};
 use crate::charges::charge;
 use crate::cloud::cloud_of;
 use crate::sum_spread::add_box;
-use pic_grid::{Cells, Nodes, Place};
+use pic_block::Place;
+use pic_grid::{Cells, Nodes};
 use pic_num::{Kind, Particle};
 
 /// The greatest size of a charge whose shares are summed in 64 bits.

@@ -4,9 +4,9 @@ use Rattle.std.proofs.Common.{slice_set, length, refl, sym, ap, ◌∙◌, arith
 use Rattle.std.proofs.Math.Decide.{ℕ_discrete}
 use Rattle.std.proofs.lemmas.List.{get_or-set_same, get_or-set_other, length-set}
 use Rattle.pic_num.specs.Space.{Triple}
-use Rattle.pic_grid.specs.Cells.{index_of, cell_of, count_of}
+use Rattle.pic_block.specs.Cells.{index_of, cell_of, count_of}
+use Rattle.pic_block.proofs.CellLaws.{index_of-cell_of, cell_of_within}
 use Rattle.pic_grid.specs.Tiles.{most_tiles}
-use Rattle.pic_grid.proofs.CellLaws.{index_of-cell_of, cell_of_within}
 use Rattle.pic_tile.specs.Directions.{ring_step}
 use Rattle.pic_tile.specs.Tiling.{neighbour_of}
 use Rattle.pic_tile.proofs.AllTilesLaws.{neighbour_below}

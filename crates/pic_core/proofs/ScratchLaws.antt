@@ -4,7 +4,7 @@ use Rattle.std.proofs.Common.{get_or, slice_set, replicate, Option, None, sym, a
 use Rattle.std.proofs.lemmas.Bool.{cases_lt}
 use Rattle.std.proofs.lemmas.List.{get_or-set_same, get_or-set_other, get_or-replicate, length-replicate, length-set, ext_get_or}
 use Rattle.std.proofs.Math.Decide.{ℕ_discrete}
-use Rattle.pic_grid.specs.Block.{AllAtMost}
+use Rattle.pic_block.specs.Block.{AllAtMost}
 use Rattle.pic_grid.specs.Traces.{most_flux}
 use Rattle.pic_tile.specs.declared.parcel.Parcel.{Parcel}
 use Rattle.pic_tile.specs.CoreState.{CoreState, Stands, AreAllShut, tile_count, slot_of, is_merged, merged_into, all_particles, first_particles}

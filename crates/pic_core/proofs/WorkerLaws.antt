@@ -9,7 +9,7 @@ use Rattle.pic_tile.specs.Directions.{directions, here}
 use Rattle.pic_tile.specs.Frame.{FrameValue}
 use Rattle.pic_tile.specs.Tiling.{neighbour_of}
 use Rattle.pic_tile.proofs.AllTilesLaws.{neighbour_below}
-use Rattle.pic_grid.specs.Cells.{count_of}
+use Rattle.pic_block.specs.Cells.{count_of}
 use Rattle.pic_core.specs.declared.event.Event.{Event}
 use Rattle.pic_core.specs.declared.event.Event.TheVariants.{Claim, Post, Merge, Shut}
 use Rattle.pic_core.specs.Events.{Ran}

@@ -1,6 +1,6 @@
 -- A push of all tiles before the first event.
 use Rattle.std.specs.Prelude.{◌≡◌, ℕ, ◌<◌, List, length, false, replicate, None, ◌*◌}
-use Rattle.pic_grid.specs.Cells.{count_of}
+use Rattle.pic_block.specs.Cells.{count_of}
 use Rattle.pic_tile.specs.CoreState.{CoreState, tile_count}
 use Rattle.pic_tile.specs.Directions.{directions}
 use Rattle.pic_tile.specs.Frame.{FrameValue}

@@ -2,7 +2,7 @@
 -- all that lead to a tile are posted, it merges them and shuts the tile.
 use Rattle.std.specs.Prelude.{◌≡◌, ℕ, zero, suc, ◌+◌, ◌<◌, ◌==◌, nat_lt, Bool, true, ◌&&◌, ◌||◌, if◌then◌else◌, List, [], ◌∷◌, ◌++◌}
 use Rattle.std.specs.List.{flat_map, range_with_len}
-use Rattle.pic_grid.specs.Cells.{count_of}
+use Rattle.pic_block.specs.Cells.{count_of}
 use Rattle.pic_tile.specs.CoreState.{CoreState, tile_count, slot_of, is_claimed, is_posted, is_merged, is_shut}
 use Rattle.pic_tile.specs.Directions.{directions, here}
 use Rattle.pic_tile.specs.Layers.{sender_of}

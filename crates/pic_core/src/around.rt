@@ -1,7 +1,7 @@
 //! The tiles that lie next to a tile, all at once.
 
 ghost use Rattle.std.specs.Prelude.{◌≡◌, ℕ, ◌+◌, ◌-◌, ◌*◌, ◌<◌, ◌≤◌, slice_index_or};
-ghost use Rattle.pic_grid.specs.Cells.{count_of};
+ghost use Rattle.pic_block.specs.Cells.{count_of};
 ghost use Rattle.pic_tile.specs.Directions.{directions, here};
 ghost use Rattle.pic_tile.specs.Tiling.{neighbour_of};
 

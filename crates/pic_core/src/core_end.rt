@@ -1,7 +1,7 @@
 //! The end of a push of all tiles.
 
 ghost use Rattle.std.specs.Prelude.{◌≡◌, ◌↔◌, ◌<◌, ℕ, IsTrue};
-ghost use Rattle.pic_grid.specs.Block.{AllAtMost};
+ghost use Rattle.pic_block.specs.Block.{AllAtMost};
 ghost use Rattle.pic_grid.specs.Traces.{most_flux};
 ghost use Rattle.pic_tile.specs.CoreState.{AreAllShut, tile_count, all_particles};
 ghost use Rattle.pic_tile.specs.Directions.{here};

@@ -16,10 +16,10 @@ use Rattle.pic_num.specs.Space.{Triple, Spot}
 use Rattle.pic_num.proofs.FirstLaws.{first_of_next, first_of_at, first_of_none, first_of_same, first_finds, first_is, none_if}
 use Rattle.pic_num.proofs.LeastLaws.{Finds, finds_none}
 use Rattle.pic_num.proofs.RoundingLaws.{scaled-no_larger}
+use Rattle.pic_block.specs.Cells.{IsWithin, count_of, cell_of, axis_of, place_of}
+use Rattle.pic_block.proofs.CellLaws.{place_within}
 use Rattle.pic_grid.specs.Lattice.{Field, value_at, field_of}
 use Rattle.pic_grid.proofs.LatticeLaws.{value_at-field_of}
-use Rattle.pic_grid.specs.Cells.{IsWithin, count_of, cell_of, axis_of, place_of}
-use Rattle.pic_grid.proofs.CellLaws.{place_within}
 use Rattle.pic_grid.proofs.NumberedLaws.{Place, places_numbered}
 use Rattle.pic_grid.specs.Sums.{sum_over}
 use Rattle.pic_walk.specs.declared.row.Row.{Row}

@@ -11,12 +11,12 @@ use mir.Val.{SFits}
 use Rattle.pic_num.specs.declared.axis.Axis.{Axis}
 use Rattle.pic_num.specs.Sizes.{IsAtMost}
 use Rattle.pic_num.specs.Space.{Triple, triple, Spot, along, axis_number}
+use Rattle.pic_block.specs.Cells.{IsWithin, count_of, index_of, place_of}
+use Rattle.pic_block.proofs.CellLaws.{place_of_same, places_more}
 use Rattle.pic_grid.specs.Lattice.{Field, value_at, with_value}
-use Rattle.pic_grid.specs.Cells.{IsWithin, count_of, index_of, place_of}
 use Rattle.pic_grid.specs.Sums.{sum_over}
 use Rattle.pic_grid.proofs.LatticeLaws.{value_at-same, value_at-other}
 use Rattle.pic_grid.proofs.OverLaws.{sum_over_more}
-use Rattle.pic_grid.proofs.CellLaws.{place_of_same, places_more}
 use Rattle.pic_walk.specs.Limits.{MeetsLimits, any_limits}
 use Rattle.pic_walk.specs.declared.row.Row.{Row}
 use Rattle.pic_walk.specs.Rows.{IsRow, AreRows, no_row}

@@ -4,8 +4,8 @@ use Rattle.pic_num.specs.declared.mult.Scales.{Scales}
 use Rattle.pic_num.specs.declared.axis.Axis.{Axis}
 use Rattle.pic_num.specs.Limits.{allowance_of}
 use Rattle.pic_num.specs.Space.{Triple, triple, Spot, spot}
+use Rattle.pic_block.specs.Cells.{Grid}
 use Rattle.pic_grid.specs.declared.loops.Loop.{Loop}
-use Rattle.pic_grid.specs.Cells.{Grid}
 use Rattle.pic_grid.specs.Loops.{AreLoops}
 use Rattle.pic_grid.specs.Species.{HeadView, AreHeads}
 use Rattle.pic_walk.specs.declared.row.Row.{Row}

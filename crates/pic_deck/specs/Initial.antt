@@ -9,7 +9,7 @@ use Rattle.pic_num.specs.Multiplier.{Multiplier}
 use Rattle.pic_num.specs.Rounding.{scaled}
 use Rattle.pic_num.specs.Sizes.{IsAtMost}
 use Rattle.pic_num.specs.Space.{Triple, Spot, along, axis_number}
-use Rattle.pic_grid.specs.Cells.{IsWithin, count_of, cell_of, axis_of}
+use Rattle.pic_block.specs.Cells.{IsWithin, count_of, cell_of, axis_of}
 use Rattle.pic_grid.specs.Sums.{sum_over}
 use Rattle.pic_walk.specs.declared.row.Row.{Row}
 

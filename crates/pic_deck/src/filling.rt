@@ -4,8 +4,8 @@ ghost use Rattle.std.specs.Prelude.{◌≡◌, ℤ, ◌^◌, ◌+ℤ◌, ◌*◌
 ghost use Rattle.pic_num.specs.declared.axis.Axis.{Axis as AxisView};
 ghost use Rattle.pic_num.specs.Sizes.{IsAtMost};
 ghost use Rattle.pic_num.specs.Space.{Triple, spot, along};
+ghost use Rattle.pic_block.specs.Cells.{IsWithin, count_of};
 ghost use Rattle.pic_grid.specs.Lattice.{value_at, field_of};
-ghost use Rattle.pic_grid.specs.Cells.{IsWithin, count_of};
 ghost use Rattle.pic_grid.specs.Sums.{sum_over};
 ghost use Rattle.pic_walk.specs.Rows.{AreRows};
 ghost use Rattle.pic_deck.specs.Initial.{IsUniform, part, set_up};

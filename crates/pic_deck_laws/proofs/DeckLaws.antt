@@ -11,7 +11,7 @@ use Rattle.pic_num.specs.Multiplier.{Multiplier}
 use Rattle.pic_num.specs.Space.{Triple}
 use Rattle.pic_num.specs.Versions.{IsGridOf}
 use Rattle.pic_num.proofs.VersionLaws.{side_least, side_most}
-use Rattle.pic_grid.specs.Cells.{Grid, IsCells}
+use Rattle.pic_block.specs.Cells.{Grid, IsCells}
 use Rattle.pic_walk.specs.Extent.{extent_of, most_extent, IsExtent}
 use Rattle.pic_walk.specs.Terms.{TermsView}
 use Rattle.pic_walk.specs.Walk.{Walked, ◌>>=◌, optional}

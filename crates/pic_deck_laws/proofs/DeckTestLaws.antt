@@ -12,7 +12,7 @@ use Rattle.pic_num.specs.Space.{Triple, triple, spot}
 use Rattle.pic_num.specs.Sub.{bits_of}
 use Rattle.pic_num.specs.Versions.{IsSideOf}
 use Rattle.pic_num.proofs.VersionLaws.{side_of_version_1}
-use Rattle.pic_grid.specs.Cells.{IsCells}
+use Rattle.pic_block.specs.Cells.{IsCells}
 use Rattle.pic_walk.specs.declared.row.Row.{Row}
 use Rattle.pic_walk.specs.Extent.{extent_of, IsExtent}
 use Rattle.pic_walk.specs.Path.{key_at, element_at}

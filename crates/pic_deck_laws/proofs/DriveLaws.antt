@@ -8,8 +8,8 @@ use Rattle.pic_num.specs.declared.axis.Axis.TheVariants.{X, Y, Z}
 use Rattle.pic_num.specs.Limits.{most_loops, most_drive, most_wave}
 use Rattle.pic_num.specs.Sizes.{IsAtMost}
 use Rattle.pic_num.specs.Space.{Triple, triple, axis_number}
+use Rattle.pic_block.specs.Cells.{IsCells, IsWithin, axis_of}
 use Rattle.pic_grid.specs.declared.loops.Loop.{Loop}
-use Rattle.pic_grid.specs.Cells.{IsCells, IsWithin, axis_of}
 use Rattle.pic_walk.specs.Limits.{from_to, MeetsLimits, limits_at}
 use Rattle.pic_walk.specs.Walk.{◌>>=◌, elements, count_of_items, table_of}
 use Rattle.pic_walk.proofs.LimitLaws.{met, meets}

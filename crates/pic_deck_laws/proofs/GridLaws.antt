@@ -11,7 +11,7 @@ use Rattle.pic_num.specs.Space.{Triple, triple}
 use Rattle.pic_num.specs.Sub.{bits_of, bits_of-side}
 use Rattle.pic_num.specs.Versions.{IsSideOf, IsGridOf}
 use Rattle.pic_num.proofs.VersionLaws.{within_scheme, side_of_bits}
-use Rattle.pic_grid.specs.Cells.{Grid, IsCells, count_of}
+use Rattle.pic_block.specs.Cells.{Grid, IsCells, count_of}
 use Rattle.pic_grid.specs.Tiles.{IsTiled, most_tiles}
 use Rattle.pic_walk.specs.Limits.{from_to, limits_at}
 use Rattle.pic_walk.specs.Walk.{Walked, ◌>>=◌, some_or, number, within, whole, three, array_of, need}

@@ -7,7 +7,7 @@ use Rattle.pic_num.specs.declared.axis.Axis.{Axis}
 use Rattle.pic_num.specs.declared.axis.Axis.TheVariants.{X, Y, Z}
 use Rattle.pic_num.specs.Sizes.{IsAtMost}
 use Rattle.pic_num.specs.Space.{Triple, spot, along, axis_number}
-use Rattle.pic_grid.specs.Cells.{Grid, IsCells, axis_of}
+use Rattle.pic_block.specs.Cells.{Grid, IsCells, axis_of}
 use Rattle.pic_walk.specs.declared.limits.Limits.{Limits}
 use Rattle.pic_walk.specs.declared.point6.Point6.{Point6}
 use Rattle.pic_walk.specs.declared.row.Row.{Row}

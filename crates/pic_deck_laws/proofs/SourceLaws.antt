@@ -9,7 +9,7 @@ use Rattle.std.proofs.lemmas.List.{get_or_default}
 use Rattle.std.proofs.lemmas.Option.{cond_some}
 use Rattle.toml.specs.Data.{Data, string, Members}
 use Rattle.pic_num.specs.Limits.{allowance_of}
-use Rattle.pic_grid.specs.Cells.{Grid}
+use Rattle.pic_block.specs.Cells.{Grid}
 use Rattle.pic_walk.specs.declared.displacement.Displacement.{Displacement}
 use Rattle.pic_walk.specs.declared.draw.Draw.{Draw}
 use Rattle.pic_walk.specs.declared.point6.Point6.{Point6}

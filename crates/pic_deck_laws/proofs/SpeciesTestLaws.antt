@@ -9,7 +9,7 @@ use Rattle.toml.specs.Data.{Data, string, array, Items, no_items, item, Members}
 use Rattle.pic_num.specs.declared.motion.Kind.{Kind}
 use Rattle.pic_num.specs.Limits.{most_species, most_mass, least_charge, greatest_charge, allowance_of}
 use Rattle.pic_num.specs.Space.{triple}
-use Rattle.pic_grid.specs.Cells.{count_of}
+use Rattle.pic_block.specs.Cells.{count_of}
 use Rattle.pic_walk.specs.declared.fault.Fault.TheVariants.{Name}
 use Rattle.pic_walk.specs.Extent.{extent_of, IsExtent}
 use Rattle.pic_walk.specs.FillKind.{source_key}

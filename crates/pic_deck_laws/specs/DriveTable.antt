@@ -4,8 +4,8 @@ use Rattle.std.specs.Prelude.{◌≡◌, ◌↔◌, ℕ, pos, ◌≤◌, List, �
 use Rattle.toml.specs.Data.{Data, Members}
 use Rattle.pic_num.specs.Limits.{most_loops}
 use Rattle.pic_num.specs.Space.{Triple, axis_number}
+use Rattle.pic_block.specs.Cells.{IsCells}
 use Rattle.pic_grid.specs.declared.loops.Loop.{Loop}
-use Rattle.pic_grid.specs.Cells.{IsCells}
 use Rattle.pic_grid.specs.Loops.{IsLoop}
 use Rattle.pic_walk.specs.Limits.{from_to}
 use Rattle.pic_devices.specs.Drive.{loop_keys, axis_limits, cell_limits, drive_limits, wave_limits, drive_list}

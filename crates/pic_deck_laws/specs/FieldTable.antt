@@ -3,7 +3,7 @@
 use Rattle.std.specs.Prelude.{◌≡◌, ◌↔◌, ◌⊎◌, ℕ, ℤ, pos, ◌≤◌, All, List, [], ◌++◌, length, codes, Ok}
 use Rattle.toml.specs.Data.{Data, Members}
 use Rattle.pic_num.specs.Space.{Triple}
-use Rattle.pic_grid.specs.Cells.{IsCells}
+use Rattle.pic_block.specs.Cells.{IsCells}
 use Rattle.pic_walk.specs.declared.row.Row.{Row}
 use Rattle.pic_walk.specs.Bounds.{most_rows}
 use Rattle.pic_walk.specs.Limits.{from_to, any_limits, MeetsLimits}

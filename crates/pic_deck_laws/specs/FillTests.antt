@@ -5,7 +5,7 @@ use Rattle.std.specs.Prelude.{slice_index_or, List, [], ◌∷◌, ◌++◌, cod
 use Rattle.toml.specs.Data.{Data, string, Members, as_str}
 use Rattle.pic_num.specs.Limits.{allowance_of}
 use Rattle.pic_num.specs.Space.{triple}
-use Rattle.pic_grid.specs.Cells.{count_of}
+use Rattle.pic_block.specs.Cells.{count_of}
 use Rattle.pic_walk.specs.declared.fault.Fault.TheVariants.{Unknown, Missing, Kind, Name}
 use Rattle.pic_walk.specs.declared.fill_kind.FillKind.{FillKind}
 use Rattle.pic_walk.specs.declared.fill_kind.FillKind.TheVariants.{Points, Lattice, Random, Pair, Displace}

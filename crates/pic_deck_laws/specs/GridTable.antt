@@ -6,7 +6,7 @@ use Rattle.toml.specs.Data.{Data, Members, as_integer}
 use Rattle.pic_num.specs.Space.{triple}
 use Rattle.pic_num.specs.Sub.{bits_of}
 use Rattle.pic_num.specs.Versions.{IsGridOf}
-use Rattle.pic_grid.specs.Cells.{Grid, IsCells, count_of}
+use Rattle.pic_block.specs.Cells.{Grid, IsCells, count_of}
 use Rattle.pic_grid.specs.Tiles.{AreTiles, most_tiles}
 use Rattle.pic_walk.specs.declared.fault.Fault.TheVariants.{Kind}
 use Rattle.pic_walk.specs.Limits.{from_to}

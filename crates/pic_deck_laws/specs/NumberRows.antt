@@ -2,7 +2,7 @@
 use Rattle.std.specs.Prelude.{◌≡◌, ℤ, pos, List, [], ◌∷◌, length, slice_index, slice_index_or}
 use Rattle.toml.specs.Data.{Data, array}
 use Rattle.pic_num.specs.Space.{Triple, axis_number}
-use Rattle.pic_grid.specs.Cells.{Grid}
+use Rattle.pic_block.specs.Cells.{Grid}
 use Rattle.pic_walk.specs.declared.point6.Point6.{Point6}
 use Rattle.pic_walk.specs.declared.row.Row.{Row}
 use Rattle.pic_walk.specs.Points.{IsPoint}

@@ -3,7 +3,7 @@
 use Rattle.std.specs.Prelude.{◌≡◌, ◌↔◌, ◌⊎◌, ℕ, pos, ◌<◌, ◌≤◌, All, List, [], ◌++◌, length, codes, Ok}
 use Rattle.toml.specs.Data.{Data, Members}
 use Rattle.pic_num.specs.Space.{Triple}
-use Rattle.pic_grid.specs.Cells.{IsCells}
+use Rattle.pic_block.specs.Cells.{IsCells}
 use Rattle.pic_walk.specs.Limits.{from_to}
 use Rattle.pic_devices.specs.declared.place.Place.{Place}
 use Rattle.pic_devices.specs.declared.probes.Probes.{Probes}

@@ -5,7 +5,7 @@ use Rattle.toml.specs.Data.{Data}
 use Rattle.toml.specs.View.{view, items_view}
 use Rattle.toml.specs.declared.value.Value.{Value}
 use Rattle.pic_num.specs.Space.{Triple, triple}
-use Rattle.pic_grid.specs.Cells.{IsCells, IsWithin}
+use Rattle.pic_block.specs.Cells.{IsCells, IsWithin}
 use Rattle.pic_walk.specs.Limits.{from_to, MeetsLimits, FitsU32, limits_at}
 use Rattle.pic_walk.specs.Path.{element_at}
 use Rattle.pic_walk.specs.Walk.{Walked, ◌>>=◌, each}

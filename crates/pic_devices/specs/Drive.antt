@@ -5,8 +5,8 @@ use Rattle.toml.specs.Data.{Data, Members}
 use Rattle.pic_num.specs.declared.axis.Axis.{Axis}
 use Rattle.pic_num.specs.Limits.{most_loops, most_wave, most_drive}
 use Rattle.pic_num.specs.Space.{Triple}
+use Rattle.pic_block.specs.Cells.{axis_of}
 use Rattle.pic_grid.specs.declared.loops.Loop.{Loop}
-use Rattle.pic_grid.specs.Cells.{axis_of}
 use Rattle.pic_walk.specs.declared.limits.Limits.{Limits}
 use Rattle.pic_walk.specs.Limits.{from_to, either_way, below}
 use Rattle.pic_walk.specs.Walk.{Walked, ◌>>=◌, within, limited, whole, three, elements, count_of_items, each, table_of, need}

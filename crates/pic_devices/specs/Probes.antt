@@ -3,7 +3,7 @@
 use Rattle.std.specs.Prelude.{ℕ, ℤ, pos, ◌-ℤ◌, ◌<◌, ◌≤◌, List, [], ◌∷◌, All, length, codes, Ok}
 use Rattle.toml.specs.Data.{Data}
 use Rattle.pic_num.specs.Space.{Triple, triple}
-use Rattle.pic_grid.specs.Cells.{IsWithin, axis_of}
+use Rattle.pic_block.specs.Cells.{IsWithin, axis_of}
 use Rattle.pic_walk.specs.declared.limits.Limits.{Limits}
 use Rattle.pic_walk.specs.Limits.{from_to}
 use Rattle.pic_walk.specs.Walk.{Walked, ◌>>=◌, whole, numbers, natural_at, table_of, optional}

@@ -6,7 +6,7 @@ ghost use Rattle.pic_num.specs.declared.axis.Axis.{Axis as AxisView};
 ghost use Rattle.pic_num.specs.Limits.{most_drive, most_loops};
 ghost use Rattle.pic_num.specs.Sizes.{IsAtMost};
 ghost use Rattle.pic_num.specs.Space.{triple};
-ghost use Rattle.pic_grid.specs.Cells.{IsCells, IsWithin};
+ghost use Rattle.pic_block.specs.Cells.{IsCells, IsWithin};
 ghost use Rattle.pic_grid.specs.declared.loops.Loop.{Loop as LoopView};
 ghost use Rattle.pic_grid.specs.Loops.{IsLoop, AreLoops};
 ghost use Rattle.pic_walk.specs.Path.{path_of};

@@ -2,7 +2,7 @@
 
 ghost use Rattle.std.specs.Prelude.{◌≡◌, ℕ, ℤ, pos, ◌<◌, ◌≤◌, List, [], All, None, codes, length, slice_index_or, IfOk};
 ghost use Rattle.toml.specs.View.{view, table_view};
-ghost use Rattle.pic_grid.specs.Cells.{IsCells};
+ghost use Rattle.pic_block.specs.Cells.{IsCells};
 ghost use Rattle.pic_walk.specs.Path.{path_of};
 ghost use Rattle.pic_walk.specs.Limits.{MeetsLimits, limits_at};
 ghost use Rattle.pic_walk.specs.Walk.{WalksAs, list_by, table_of, optional};

@@ -2,9 +2,9 @@
 use Rattle.std.proofs.Common.{◌≡◌, ℕ, ◌+◌, ◌<◌, List, length, take, get_or, Option, None, refl, subst, ◌∙◌, arith}
 use Rattle.pic_num.specs.declared.motion.Particle.{Particle}
 use Rattle.pic_num.specs.Limits.{most_flux_of}
-use Rattle.pic_grid.specs.Block.{BlockValues, IsShaped, AllAtMost}
-use Rattle.pic_grid.proofs.BlockLaws.{all_at_most_more}
-use Rattle.pic_grid.proofs.ShapeLaws.{shaped_same}
+use Rattle.pic_block.specs.Block.{BlockValues, IsShaped, AllAtMost}
+use Rattle.pic_block.proofs.BlockLaws.{all_at_most_more}
+use Rattle.pic_block.proofs.ShapeLaws.{shaped_same}
 use Rattle.pic_flux.specs.Adds.{Adds, GrowsBy}
 use Rattle.pic_flux.proofs.AddsLaws.{adds_none, adds_start, adds_more}
 use Rattle.pic_ways.specs.declared.way.Way.{Way}

@@ -11,7 +11,7 @@ use Rattle.pic_num.specs.declared.motion.Kind.{Kind}
 use Rattle.pic_num.specs.Limits.{most_particles}
 use Rattle.pic_num.specs.Space.{Triple, triple, spot}
 use Rattle.pic_num.proofs.VersionLaws.{side_least, within_scheme}
-use Rattle.pic_grid.specs.Cells.{Grid}
+use Rattle.pic_block.specs.Cells.{Grid}
 use Rattle.pic_grid.specs.Hat.{HasTwo}
 use Rattle.pic_grid.specs.Lattice.{value_at, field_of}
 use Rattle.pic_grid.specs.PushPhase.{kind_of, no_kind}

@@ -8,14 +8,14 @@ use Rattle.pic_num.specs.declared.axis.Axis.{Axis}
 use Rattle.pic_num.specs.Limits.{most_side, most_particles, most_flux_of, most_value}
 use Rattle.pic_num.specs.Sizes.{IsAtMost}
 use Rattle.pic_num.specs.Space.{Triple, Spot}
-use Rattle.pic_grid.specs.Block.{BlockValues, InZone, IsShaped, edge_at, inner_of}
-use Rattle.pic_grid.specs.Cells.{Grid, IsWithin, count_of, place_of}
+use Rattle.pic_block.specs.Block.{BlockValues, InZone, IsShaped, edge_at, inner_of}
+use Rattle.pic_block.specs.Cells.{Grid, IsWithin, count_of, place_of}
+use Rattle.pic_block.proofs.BlockLaws.{in_zone_shaped}
+use Rattle.pic_block.proofs.ShapeLaws.{shaped_back, zero_read}
 use Rattle.pic_grid.specs.Current.{wrapped}
 use Rattle.pic_grid.specs.Hat.{HasTwo}
 use Rattle.pic_grid.specs.Lattice.{Field, EachAtMost, value_at, field_of}
 use Rattle.pic_grid.proofs.LatticeLaws.{is_field_of, value_at-field_of}
-use Rattle.pic_grid.proofs.BlockLaws.{in_zone_shaped}
-use Rattle.pic_grid.proofs.ShapeLaws.{shaped_back, zero_read}
 use Rattle.pic_flux.specs.Adds.{Adds}
 use Rattle.pic_filter.specs.Smoothing.{filtered, smoothed, most_to_smooth, most_smoothed}
 use Rattle.pic_filter.proofs.SizeLaws.{smoothed_small}

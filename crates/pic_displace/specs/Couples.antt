@@ -4,7 +4,7 @@ use Rattle.std.specs.Prelude.{◌≡◌, ℕ, pos, ◌<◌, ◌==◌, Bool, fals
 use Rattle.std.specs.List.{count_by}
 use Rattle.pic_num.specs.declared.axis.Axis.{Axis}
 use Rattle.pic_num.specs.Space.{Triple}
-use Rattle.pic_grid.specs.Cells.{IsWithin}
+use Rattle.pic_block.specs.Cells.{IsWithin}
 use Rattle.pic_grid.specs.Lattice.{field_of}
 use Rattle.pic_charge.specs.Gauss.{MeetsGauss}
 use Rattle.pic_deck.specs.declared.species.Fill.{Fill}

@@ -6,8 +6,8 @@ ghost use Rattle.pic_num.specs.declared.axis.Axis.{Axis as AxisName};
 ghost use Rattle.pic_num.specs.Limits.{most_flux_of, most_particles, most_value};
 ghost use Rattle.pic_num.specs.Sizes.{IsAtMost};
 ghost use Rattle.pic_num.specs.Space.{Triple};
-ghost use Rattle.pic_grid.specs.Block.{IsShaped, AllAtMost};
-ghost use Rattle.pic_grid.specs.Cells.{IsWithin};
+ghost use Rattle.pic_block.specs.Block.{IsShaped, AllAtMost};
+ghost use Rattle.pic_block.specs.Cells.{IsWithin};
 ghost use Rattle.pic_grid.specs.Lattice.{field_of, value_at};
 ghost use Rattle.pic_flux.specs.Adds.{Adds};
 ghost use Rattle.pic_walk.specs.Path.{key_at};
@@ -20,8 +20,9 @@ ghost use Rattle.pic_displace.specs.Displace.{is_displacement, has_displaced, wa
 ghost use Rattle.pic_displace.specs.Displace.{displaced_e, BecomesDisplaced, e_allowed, Refuses, Displaces};
 
 use crate::fault::DisplaceFault;
+use pic_block::Block;
 use pic_deck::{Deck, Fill, KeyPath, Refusal, Species, first_strong, particles_of};
-use pic_grid::{Block, Cells, Lattice};
+use pic_grid::{Cells, Lattice};
 use pic_num::{MAX_FORCE, Mult, Particle};
 use pic_walk::Address;
 use pic_ways::{Way, WayRoom, add_way, take_current_off};

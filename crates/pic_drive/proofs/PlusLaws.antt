@@ -7,11 +7,11 @@ use Rattle.std.proofs.lemmas.List.{length-set}
 use Rattle.pic_num.specs.declared.axis.Axis.{Axis}
 use Rattle.pic_num.specs.Sizes.{IsAtMost}
 use Rattle.pic_num.specs.Space.{Triple}
-use Rattle.pic_grid.specs.Cells.{IsWithin, count_of, place_of}
+use Rattle.pic_block.specs.Cells.{IsWithin, count_of, place_of}
+use Rattle.pic_block.proofs.CellLaws.{place_of_below, place_of_same, places_more}
+use Rattle.pic_block.proofs.PlaceLaws.{IsPlace}
 use Rattle.pic_grid.specs.Lattice.{Field, EachAtMost, value_at, with_value, field_of}
-use Rattle.pic_grid.proofs.CellLaws.{place_of_below, place_of_same, places_more}
 use Rattle.pic_grid.proofs.LatticeLaws.{value_at-same, value_at-other, value_at-field_of, length-values_of, is_field_of}
-use Rattle.pic_grid.proofs.PlaceLaws.{IsPlace}
 use Rattle.pic_drive.specs.Drive.{only_there, plus}
 use Rattle.pic_drive.proofs.OnlyLaws.{only_same, only_other}
 

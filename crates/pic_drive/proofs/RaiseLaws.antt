@@ -5,8 +5,8 @@ use Rattle.std.proofs.lemmas.List.Elements.{All-get_or}
 use Rattle.pic_num.specs.declared.axis.Axis.{Axis}
 use Rattle.pic_num.specs.Limits.{most_value, most_loops}
 use Rattle.pic_num.specs.Space.{Triple, triple, next_axis}
+use Rattle.pic_block.specs.Cells.{IsWithin}
 use Rattle.pic_grid.specs.declared.loops.Loop.{Loop}
-use Rattle.pic_grid.specs.Cells.{IsWithin}
 use Rattle.pic_grid.specs.Differences.{up, curl_b}
 use Rattle.pic_grid.specs.Lattice.{Field, EachAtMost, field_of}
 use Rattle.pic_grid.specs.Loops.{IsLoop, AreLoops}

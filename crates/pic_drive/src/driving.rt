@@ -4,13 +4,14 @@ ghost use Rattle.std.specs.Prelude.{◌≡◌, pos, ◌+◌, ◌*◌, ◌^◌, �
 ghost use Rattle.pic_num.specs.Limits.{most_value, most_loops, most_drive};
 ghost use Rattle.pic_num.specs.Sizes.{IsAtMost};
 ghost use Rattle.pic_num.specs.Space.{triple};
-ghost use Rattle.pic_grid.specs.Cells.{IsWithin};
+ghost use Rattle.pic_block.specs.Cells.{IsWithin};
 ghost use Rattle.pic_grid.specs.Differences.{curl_b};
 ghost use Rattle.pic_grid.specs.Lattice.{EachAtMost, field_of};
 ghost use Rattle.pic_grid.specs.Loops.{IsLoop, AreLoops};
 ghost use Rattle.pic_drive.specs.Drive.{wave_at, only_there, driven, most_driven, plus};
 
-use pic_grid::{Lattice, Loop, Place};
+use pic_block::Place;
+use pic_grid::{Lattice, Loop};
 use pic_num::Axis;
 
 /// Makes every value of a lattice what loops add to the scaled B of its face in the step after so

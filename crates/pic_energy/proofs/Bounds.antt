@@ -5,9 +5,9 @@ use Rattle.pic_num.specs.Limits.{most_value, most_force}
 use Rattle.pic_num.specs.Multiplier.{Multiplier}
 use Rattle.pic_num.specs.Rounding.{scaled}
 use Rattle.pic_num.specs.Sizes.{IsAtMost}
+use Rattle.pic_block.specs.Cells.{count_of, place_of}
+use Rattle.pic_block.proofs.CellLaws.{place_of_below}
 use Rattle.pic_grid.specs.Lattice.{Field}
-use Rattle.pic_grid.specs.Cells.{count_of, place_of}
-use Rattle.pic_grid.proofs.CellLaws.{place_of_below}
 use Rattle.pic_energy.specs.Energies.{IsBounded}
 
 -- a field whose list of values is bounded

@@ -3,13 +3,13 @@ use Rattle.std.proofs.Common.{◌≡◌, ℕ, ℤ, pos, ◌+◌, ◌-◌, ◌*�
 use Rattle.std.proofs.lemmas.List.{length-take-le, length-drop, get_or-take, get_or-drop, ext_get_or}
 use Rattle.std.proofs.lemmas.List.Elements.{All-from_get_or}
 use Rattle.std.specs.Prelude.{All}
-use Rattle.pic_grid.proofs.RowLaws.{place_of-along}
 use Rattle.pic_num.specs.declared.axis.Axis.{Axis}
 use Rattle.pic_num.specs.Space.{Triple}
-use Rattle.pic_grid.specs.Cells.{IsWithin, count_of, place_of}
+use Rattle.pic_block.proofs.RowLaws.{place_of-along}
+use Rattle.pic_block.specs.Cells.{IsWithin, count_of, place_of}
+use Rattle.pic_block.proofs.CellLaws.{place_of_below}
+use Rattle.pic_block.proofs.PlaceLaws.{IsPlace}
 use Rattle.pic_grid.specs.Lattice.{Field, value_at}
-use Rattle.pic_grid.proofs.CellLaws.{place_of_below}
-use Rattle.pic_grid.proofs.PlaceLaws.{IsPlace}
 
 -- the values of a run stand side by side in the order of places
 pub record IsRun (f : Field) (a : Axis) (p : Triple) (run : List ℤ) : Type 0 where

@@ -9,7 +9,8 @@ ghost use Rattle.pic_grid.specs.PushPhase.{kind_of};
 ghost use Rattle.pic_energy.specs.Energies.{square_of, speed_square, kinetic_of, kinetic_sum, square_sum, energies_of, HasMass, IsOfKinds, IsBounded};
 
 use crate::amounts::Energies;
-use pic_grid::{Lattice, Place, Snapshot};
+use pic_block::Place;
+use pic_grid::{Lattice, Snapshot};
 use pic_num::{Kind, Mult, Particle, Scales, scale};
 
 /// The energies of a state: kinetic is the sum of mass times the square of the velocity over the

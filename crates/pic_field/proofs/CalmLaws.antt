@@ -5,10 +5,10 @@ use Rattle.pic_num.specs.Multiplier.{Multiplier}
 use Rattle.pic_num.specs.Sizes.{IsAtMost}
 use Rattle.pic_num.specs.Space.{Triple, unwrapped}
 use Rattle.pic_num.proofs.FirstLaws.{first_of_same}
+use Rattle.pic_block.specs.Cells.{IsWithin, count_of, cell_of, axis_of}
+use Rattle.pic_block.specs.Block.{BlockValues, IsAmongCells, IsShaped, AllAtMost, inner_at, edge_at, outer_of}
+use Rattle.pic_block.proofs.CellLaws.{place_within}
 use Rattle.pic_grid.specs.declared.stop.Phase.{Phase}
-use Rattle.pic_grid.specs.Cells.{IsWithin, count_of, cell_of, axis_of}
-use Rattle.pic_grid.specs.Block.{BlockValues, IsAmongCells, IsShaped, AllAtMost, inner_at, edge_at, outer_of}
-use Rattle.pic_grid.proofs.CellLaws.{place_within}
 use Rattle.pic_field.specs.FieldPhases.{lowest, cell_above, fault_of, fault_at, least_fault, IsBounded}
 use Rattle.pic_field.specs.LeastStop.{EachBounded}
 use Rattle.pic_field.specs.Lines.{OnStrip, AreSmall}

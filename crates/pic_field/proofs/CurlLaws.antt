@@ -6,10 +6,10 @@ use Rattle.pic_num.specs.declared.mult.Scales.{Scales}
 use Rattle.pic_num.specs.declared.axis.Axis.{Axis}
 use Rattle.pic_num.specs.Space.{Triple, Spot, next_axis}
 use Rattle.pic_num.proofs.Ring.{ring, reads}
-use Rattle.pic_grid.specs.Cells.{IsWithin}
+use Rattle.pic_block.specs.Cells.{IsWithin}
+use Rattle.pic_block.specs.Block.{IsAmongCells, outer_of}
 use Rattle.pic_grid.specs.Differences.{down, curl_b}
 use Rattle.pic_grid.specs.Lattice.{Field}
-use Rattle.pic_grid.specs.Block.{IsAmongCells, outer_of}
 use Rattle.pic_field.specs.FieldPhases.{half_of, full_of, driven_b, no_drive}
 use Rattle.pic_field.specs.declared.row.CurlRows.{CurlRows}
 use Rattle.pic_field.specs.Beside.{layer_beside, next_to, curl_beside, first_index, room_layer, row_room}

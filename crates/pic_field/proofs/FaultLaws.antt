@@ -13,14 +13,14 @@ use Rattle.pic_num.specs.Rounding.{scaled}
 use Rattle.pic_num.specs.Space.{Triple, Spot}
 use Rattle.pic_num.proofs.FirstLaws.{first_of_next, first_finds, first_is}
 use Rattle.pic_num.proofs.LeastLaws.{Finds}
+use Rattle.pic_block.specs.Cells.{IsWithin, count_of, place_of}
+use Rattle.pic_block.specs.Block.{BlockValues, IsAmongCells, inner_of, inner_at, outer_of}
+use Rattle.pic_block.proofs.BlockLaws.{inner_within}
+use Rattle.pic_block.proofs.PlaceLaws.{IsPlace}
 use Rattle.pic_grid.specs.declared.stop.Phase.{Phase}
 use Rattle.pic_grid.specs.declared.stop.Stop.{Stop}
-use Rattle.pic_grid.specs.Cells.{IsWithin, count_of, place_of}
-use Rattle.pic_grid.specs.Block.{BlockValues, IsAmongCells, inner_of, inner_at, outer_of}
 use Rattle.pic_grid.specs.Parts.{origin}
 use Rattle.pic_grid.proofs.NumberedLaws.{Place, places_numbered}
-use Rattle.pic_grid.proofs.BlockLaws.{inner_within}
-use Rattle.pic_grid.proofs.PlaceLaws.{IsPlace}
 use Rattle.pic_field.specs.FieldPhases.{fault_of, cell_above, lowest, fault_at, least_fault, IsBounded, AllBounded}
 
 -- neither of two tests holds where neither answer is given

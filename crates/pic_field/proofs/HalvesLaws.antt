@@ -8,12 +8,12 @@ use Rattle.pic_num.specs.Rounding.{scaled}
 use Rattle.pic_num.specs.Sizes.{IsAtMost}
 use Rattle.pic_num.specs.Space.{Triple}
 use Rattle.pic_num.proofs.Ring.{ring, reads}
-use Rattle.pic_grid.specs.Block.{BlockValues, IsAmongCells, IsShaped, AllAtMost, inner_at}
-use Rattle.pic_grid.specs.Cells.{IsWithin, count_of, place_of}
+use Rattle.pic_block.specs.Block.{BlockValues, IsAmongCells, IsShaped, AllAtMost, inner_at}
+use Rattle.pic_block.specs.Cells.{IsWithin, count_of, place_of}
+use Rattle.pic_block.specs.Lending.{with_values}
+use Rattle.pic_block.proofs.CellLaws.{place_of_below, place_of-number, place_within}
 use Rattle.pic_grid.specs.Differences.{curl_e}
 use Rattle.pic_grid.specs.Lattice.{Field, value_at}
-use Rattle.pic_grid.specs.Lending.{with_values}
-use Rattle.pic_grid.proofs.CellLaws.{place_of_below, place_of-number, place_within}
 use Rattle.pic_field.specs.FieldPhases.{half_of}
 use Rattle.pic_field.specs.Lines.{OnStrip, AreSmall}
 use Rattle.pic_field.specs.Rows.{row_at, IsSmallRow}

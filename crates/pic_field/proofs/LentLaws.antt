@@ -3,11 +3,11 @@ use Rattle.std.proofs.Common.{◌≡◌, ℕ, ℤ, ◌+◌, ◌-◌, ◌*◌, �
 use Rattle.pic_num.specs.declared.axis.Axis.{Axis}
 use Rattle.pic_num.specs.Sizes.{IsAtMost}
 use Rattle.pic_num.specs.Space.{Triple}
-use Rattle.pic_grid.specs.Block.{BlockValues, inner_at}
-use Rattle.pic_grid.specs.Cells.{count_of}
-use Rattle.pic_grid.specs.Lending.{with_values}
-use Rattle.pic_grid.specs.Rows.{row_of, with_row}
-use Rattle.pic_grid.proofs.RowLaws.{row_value, row_given, part_long}
+use Rattle.pic_block.specs.Block.{BlockValues, inner_at}
+use Rattle.pic_block.specs.Cells.{count_of}
+use Rattle.pic_block.specs.Lending.{with_values}
+use Rattle.pic_block.specs.Rows.{row_of, with_row}
+use Rattle.pic_block.proofs.RowLaws.{row_value, row_given, part_long}
 use Rattle.pic_field.specs.Lines.{OnRow, Changed, AreSmall}
 use Rattle.pic_field.specs.Rows.{row_at, IsSmallRow}
 use Rattle.pic_field.proofs.LineLaws.{row_changed, row_small}

@@ -2,7 +2,7 @@
 use Rattle.std.proofs.Common.{◌≡◌, ℕ, ℤ, pos, ◌+◌, ◌-◌, ◌<◌, ◌≤◌, List, ◌++◌, length, take, drop, inl, inr, ◌∙◌, ap, arith}
 use Rattle.std.proofs.lemmas.Bool.{cases_lt}
 use Rattle.std.proofs.lemmas.List.{get_or-take, get_or-drop, get_or_append_left, get_or-append_right, length-take-le}
-use Rattle.pic_grid.proofs.RowLaws.{part_at}
+use Rattle.pic_block.proofs.RowLaws.{part_at}
 use Rattle.pic_field.specs.Rows.{row_at}
 
 -- of a row the values below done are changed by g, and the next ones are written: they are changed too

@@ -5,10 +5,10 @@ use Rattle.pic_num.specs.declared.axis.Axis.{Axis}
 use Rattle.pic_num.specs.declared.axis.Axis.TheVariants.{X, Y, Z}
 use Rattle.pic_num.specs.Sizes.{IsAtMost}
 use Rattle.pic_num.specs.Space.{Triple}
-use Rattle.pic_grid.specs.Cells.{IsWithin, count_of}
-use Rattle.pic_grid.specs.Block.{BlockValues, inner_at}
-use Rattle.pic_grid.specs.Rows.{with_row}
-use Rattle.pic_grid.proofs.RowLaws.{IsOff, row_here, row_others, row_shape, row_size}
+use Rattle.pic_block.specs.Cells.{IsWithin, count_of}
+use Rattle.pic_block.specs.Block.{BlockValues, inner_at}
+use Rattle.pic_block.specs.Rows.{with_row}
+use Rattle.pic_block.proofs.RowLaws.{IsOff, row_here, row_others, row_shape, row_size}
 use Rattle.pic_field.specs.Beside.{swept_layer}
 use Rattle.pic_field.specs.Lines.{OnRow, OnLine, OnLines, OnStrip, OnLayers, Changed, AreSmall}
 use Rattle.pic_field.proofs.BesideLaws.{layer_below, layer_back}

@@ -2,8 +2,8 @@
 use Rattle.std.proofs.Common.{ℤ}
 use Rattle.pic_num.specs.declared.axis.Axis.{Axis}
 use Rattle.pic_num.specs.Space.{Triple}
-use Rattle.pic_grid.specs.Block.{BlockValues}
-use Rattle.pic_grid.specs.Cells.{IsWithin}
+use Rattle.pic_block.specs.Block.{BlockValues}
+use Rattle.pic_block.specs.Cells.{IsWithin}
 use Rattle.pic_field.specs.FieldPhases.{most_raised}
 use Rattle.pic_field.specs.Lines.{Changed}
 use Rattle.pic_field.specs.Makings.{CanMake}

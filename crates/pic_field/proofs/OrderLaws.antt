@@ -5,7 +5,7 @@ use Rattle.std.proofs.lemmas.Nat.{mul-add-lt, same_from_place}
 use Rattle.pic_num.specs.declared.axis.Axis.{Axis}
 use Rattle.pic_num.specs.Space.{Triple, axis_number}
 use Rattle.pic_num.proofs.AxisLaws.{same_axis_number}
-use Rattle.pic_grid.specs.Cells.{IsWithin, index_of, place_of}
+use Rattle.pic_block.specs.Cells.{IsWithin, index_of, place_of}
 use Rattle.pic_field.specs.LeastStop.{IsBefore, less_axis, less_z, less_y, less_x}
 
 -- a number written with the digits a, z, y and x, in a box of r cells

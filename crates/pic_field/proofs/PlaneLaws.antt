@@ -5,7 +5,7 @@ use borrow.Author.Count.{below_more}
 use Rattle.pic_num.specs.declared.axis.Axis.{Axis}
 use Rattle.pic_num.specs.declared.axis.Axis.TheVariants.{Y, Z}
 use Rattle.pic_num.specs.Space.{Triple, Spot}
-use Rattle.pic_grid.specs.Block.{IsAmongCells}
+use Rattle.pic_block.specs.Block.{IsAmongCells}
 use Rattle.pic_field.specs.declared.plane.Line.{Line}
 use Rattle.pic_field.specs.declared.plane.Span.{Span}
 use Rattle.pic_field.specs.Beside.{layer_beside, next_to, first_index, room_layer, row_room, plane_room, swept_layer}

@@ -9,12 +9,12 @@ use Rattle.pic_num.specs.declared.mult.Scales.{Scales}
 use Rattle.pic_num.specs.Limits.{most_value}
 use Rattle.pic_num.specs.Sizes.{IsAtMost}
 use Rattle.pic_num.specs.Space.{Triple, Spot, next_axis, unwrapped}
-use Rattle.pic_grid.specs.Block.{BlockValues, InZone, IsAmongCells, IsShaped, AllAtMost, inner_of, inner_at, edge_at, with_edge, outer_of}
-use Rattle.pic_grid.specs.Cells.{IsWithin, count_of, place_of}
+use Rattle.pic_block.specs.Block.{BlockValues, InZone, IsAmongCells, IsShaped, AllAtMost, inner_of, inner_at, edge_at, with_edge, outer_of}
+use Rattle.pic_block.specs.Cells.{IsWithin, count_of, place_of}
+use Rattle.pic_block.proofs.BlockLaws.{inner_within}
+use Rattle.pic_block.proofs.CellLaws.{place_of_below, places_more}
 use Rattle.pic_grid.specs.Differences.{down, curl_b}
 use Rattle.pic_grid.specs.Lattice.{Field, EachAtMost, value_at}
-use Rattle.pic_grid.proofs.BlockLaws.{inner_within}
-use Rattle.pic_grid.proofs.CellLaws.{place_of_below, places_more}
 use Rattle.pic_field.specs.FieldPhases.{full_of, full_in, lowest, stop_of_full, IsFullStep, no_current, no_drive, most_drive_value, most_lessened, most_raised}
 use Rattle.pic_grid.specs.declared.stop.Phase.TheVariants.{Electric}
 use Rattle.pic_field.specs.FieldPhases.{least_fault}

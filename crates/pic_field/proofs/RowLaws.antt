@@ -13,7 +13,7 @@ use Rattle.pic_num.specs.Rounding.{scaled}
 use Rattle.pic_num.specs.Sizes.{IsAtMost}
 use Rattle.pic_num.specs.Space.{Triple}
 use Rattle.pic_num.proofs.SizeLaws.{codes, code_is, at_most_more}
-use Rattle.pic_grid.specs.Cells.{IsWithin}
+use Rattle.pic_block.specs.Cells.{IsWithin}
 use Rattle.pic_grid.specs.Lattice.{Field, value_at, EachAtMost}
 use Rattle.pic_field.specs.declared.plane.Span.{Span}
 use Rattle.pic_field.specs.Rows.{most_row, scaled_of, row_at, along_x, IsSmallRow, IsValueRow, IsScaledRow}

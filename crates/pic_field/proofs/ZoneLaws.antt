@@ -4,8 +4,8 @@ use Rattle.std.proofs.Common.{◌≡◌, ℕ, ℤ, pos, ◌+◌, ◌<◌, ◌+�
 use Rattle.std.proofs.lemmas.Int.{ints}
 use Rattle.pic_num.specs.declared.axis.Axis.{Axis}
 use Rattle.pic_num.specs.Space.{Triple, Spot, unwrapped}
-use Rattle.pic_grid.specs.Cells.{IsWithin, place_of}
-use Rattle.pic_grid.specs.Block.{BlockValues, InZone, IsAmongCells, IsShaped, inner_of, edge_at, inner_at, outer_of}
+use Rattle.pic_block.specs.Cells.{IsWithin, place_of}
+use Rattle.pic_block.specs.Block.{BlockValues, InZone, IsAmongCells, IsShaped, inner_of, edge_at, inner_at, outer_of}
 
 inner_up : (l : ℤ) (x : ℕ) → pos 0 ≤ℤ l → unsigned_abs (pos (unsigned_abs l + x) -ℤ l) ≡ x
 inner_up l x h = omega (arith, ints)

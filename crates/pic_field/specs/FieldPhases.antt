@@ -12,6 +12,8 @@ use Rattle.pic_num.specs.Multiplier.{Multiplier}
 use Rattle.pic_num.specs.Rounding.{scaled}
 use Rattle.pic_num.specs.Sizes.{IsAtMost}
 use Rattle.pic_num.specs.Space.{Triple, Spot, unwrapped}
+use Rattle.pic_block.specs.Cells.{IsWithin, count_of, cell_of, axis_of}
+use Rattle.pic_block.specs.Block.{BlockValues, InZone, edge_at, inner_at, outer_of}
 use Rattle.pic_grid.specs.declared.stop.Bound.TheVariants.{Value, Force}
 use Rattle.pic_grid.specs.declared.stop.Phase.{Phase}
 use Rattle.pic_grid.specs.declared.stop.Phase.TheVariants.{Half2, Electric}
@@ -19,8 +21,6 @@ use Rattle.pic_grid.specs.declared.stop.Stop.{Stop}
 use Rattle.pic_grid.specs.declared.stop.Stop.TheVariants.{Field as field_stop}
 use Rattle.pic_grid.specs.Differences.{curl_b, curl_e}
 use Rattle.pic_grid.specs.Lattice.{Field, value_at}
-use Rattle.pic_grid.specs.Cells.{IsWithin, count_of, cell_of, axis_of}
-use Rattle.pic_grid.specs.Block.{BlockValues, InZone, edge_at, inner_at, outer_of}
 
 -- half a step of B at a place, from its old value v: v less the curl of the scaled E
 unfoldable pub half_of : Scales → Field → Axis → Triple → ℤ → ℤ

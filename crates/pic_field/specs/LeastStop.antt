@@ -8,13 +8,13 @@ use Rattle.pic_num.specs.Multiplier.{Multiplier}
 use Rattle.pic_num.specs.Rounding.{scaled}
 use Rattle.pic_num.specs.Sizes.{IsAtMost}
 use Rattle.pic_num.specs.Space.{Triple, axis_number}
+use Rattle.pic_block.specs.Cells.{IsWithin}
 use Rattle.pic_grid.specs.declared.stop.Bound.{Bound}
 use Rattle.pic_grid.specs.declared.stop.Bound.TheVariants.{Value, Force}
 use Rattle.pic_grid.specs.declared.stop.Phase.{Phase}
 use Rattle.pic_grid.specs.declared.stop.Stop.{Stop}
 use Rattle.pic_grid.specs.declared.stop.Stop.TheVariants.{Field as field_stop}
 use Rattle.pic_grid.specs.Arrays.{array_of_triple}
-use Rattle.pic_grid.specs.Cells.{IsWithin}
 use Rattle.pic_field.specs.FieldPhases.{cell_above, least_fault, IsBounded}
 
 -- in the box of size cells from low on no value passes a bound

@@ -4,8 +4,8 @@ use Rattle.std.specs.Prelude.{◌≡◌, ℕ, ℤ, ◌<◌, ◌≤◌, ◌-ℤ�
 use Rattle.pic_num.specs.declared.axis.Axis.{Axis}
 use Rattle.pic_num.specs.Sizes.{IsAtMost}
 use Rattle.pic_num.specs.Space.{Triple, Spot}
-use Rattle.pic_grid.specs.Cells.{IsWithin}
-use Rattle.pic_grid.specs.Block.{BlockValues, IsShaped, inner_at, outer_of}
+use Rattle.pic_block.specs.Cells.{IsWithin}
+use Rattle.pic_block.specs.Block.{BlockValues, IsShaped, inner_at, outer_of}
 use Rattle.pic_field.specs.Beside.{swept_layer, curl_beside}
 
 -- a zone has a cell: at least one layer on each axis

@@ -3,7 +3,7 @@ use Rattle.std.specs.Prelude.{ℤ, ◌-ℤ◌, ⊤}
 use Rattle.pic_num.specs.declared.axis.Axis.{Axis}
 use Rattle.pic_num.specs.Rounding.{scaled}
 use Rattle.pic_num.specs.Space.{Triple, Spot}
-use Rattle.pic_grid.specs.Block.{BlockValues, outer_of}
+use Rattle.pic_block.specs.Block.{BlockValues, outer_of}
 use Rattle.pic_grid.specs.Lattice.{Field, value_at}
 use Rattle.pic_field.specs.FieldPhases.{most_raised}
 use Rattle.pic_field.specs.Lines.{AreSmall}

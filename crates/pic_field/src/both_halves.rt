@@ -6,10 +6,10 @@ ghost use Rattle.pic_num.specs.Limits.{most_value};
 ghost use Rattle.pic_num.specs.Push.{unless};
 ghost use Rattle.pic_num.specs.Rounding.{scaled};
 ghost use Rattle.pic_num.specs.Space.{Triple};
+ghost use Rattle.pic_block.specs.Cells.{IsWithin};
+ghost use Rattle.pic_block.specs.Block.{IsAmongCells, IsShaped, AllAtMost, inner_at, outer_of};
 ghost use Rattle.pic_grid.specs.declared.stop.Phase.TheVariants.{Half1, Half2};
-ghost use Rattle.pic_grid.specs.Cells.{IsWithin};
 ghost use Rattle.pic_grid.specs.Lattice.{EachAtMost};
-ghost use Rattle.pic_grid.specs.Block.{IsAmongCells, IsShaped, AllAtMost, inner_at, outer_of};
 ghost use Rattle.pic_field.specs.FieldPhases.{lowest, least_fault, stop_of_half, stop_of_second, IsTwiceHalved, IsForceBetween};
 ghost use Rattle.pic_field.specs.Rows.{row_at, IsSmallRow};
 
@@ -17,7 +17,8 @@ use crate::faults::{safe_most, stop_in};
 use crate::magnetic::half_b_in;
 use crate::rooms::Rooms;
 use crate::row::{scale_value, size_of};
-use pic_grid::{Block, Cells, Lattice, Phase, Stop};
+use pic_block::Block;
+use pic_grid::{Cells, Lattice, Phase, Stop};
 use pic_num::{Mult, Scales};
 
 /// Both half steps of B at every place of a block, between which E stays, and in a block of the same

@@ -3,8 +3,8 @@
 ghost use Rattle.std.specs.Prelude.{◌≡◌, OnOk};
 ghost use Rattle.pic_num.specs.Limits.{most_value};
 ghost use Rattle.pic_num.specs.Push.{unless};
+ghost use Rattle.pic_block.specs.Block.{IsAmongCells, IsShaped, AllAtMost};
 ghost use Rattle.pic_grid.specs.Lattice.{EachAtMost, value_at};
-ghost use Rattle.pic_grid.specs.Block.{IsAmongCells, IsShaped, AllAtMost};
 ghost use Rattle.pic_field.specs.FieldPhases.{stop_of_full, AllBounded, IsFullStep, no_current, no_drive, values_in, most_drive_value, most_lessened, most_raised};
 
 use crate::faults::safe_most;
@@ -13,7 +13,8 @@ use crate::raising::raise;
 use crate::rooms::Rooms;
 use crate::row::Scaled;
 use crate::sweep::{Sweep, advance};
-use pic_grid::{Block, Lattice, Phase, Stop};
+use pic_block::Block;
+use pic_grid::{Lattice, Phase, Stop};
 use pic_num::Scales;
 
 /// A step of E at every place of a block: each value and the curl of the scaled B, which `m` drives,

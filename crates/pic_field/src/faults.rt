@@ -4,11 +4,12 @@ ghost use Rattle.std.specs.Prelude.{◌≡◌, ℤ};
 ghost use Rattle.pic_num.specs.Push.{unless};
 ghost use Rattle.pic_num.specs.Sizes.{IsAtMost};
 ghost use Rattle.pic_num.specs.Space.{triple, unwrapped};
-ghost use Rattle.pic_grid.specs.Block.{IsAmongCells, edge_at};
+ghost use Rattle.pic_block.specs.Block.{IsAmongCells, edge_at};
 ghost use Rattle.pic_field.specs.FieldPhases.{fault_of, lowest, least_fault, IsBounded};
 
 use crate::zone::{cell_in, place_count};
-use pic_grid::{Block, Bound, Cells, Phase, Place, Stop};
+use pic_block::{Block, Place};
+use pic_grid::{Bound, Cells, Phase, Stop};
 use pic_num::{Axis, Mult, scale};
 
 /// The greatest size of a field's value.

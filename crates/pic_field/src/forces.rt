@@ -5,12 +5,13 @@ ghost use Rattle.pic_num.specs.declared.axis.Axis.{Axis as AxisName};
 ghost use Rattle.pic_num.specs.Limits.{most_value};
 ghost use Rattle.pic_num.specs.Rounding.{scaled};
 ghost use Rattle.pic_num.specs.Space.{Triple};
-ghost use Rattle.pic_grid.specs.Cells.{IsWithin};
+ghost use Rattle.pic_block.specs.Cells.{IsWithin};
+ghost use Rattle.pic_block.specs.Block.{IsAmongCells, IsShaped, inner_at, outer_of};
 ghost use Rattle.pic_grid.specs.Lattice.{EachAtMost, value_at};
-ghost use Rattle.pic_grid.specs.Block.{IsAmongCells, IsShaped, inner_at, outer_of};
 
 use crate::making::{Making, make};
-use pic_grid::{Block, Lattice};
+use pic_block::Block;
+use pic_grid::Lattice;
 use pic_num::Mult;
 
 /// Makes every value of a block the force value of a field there, whatever the block held: the

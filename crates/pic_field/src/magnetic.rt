@@ -3,15 +3,16 @@
 ghost use Rattle.std.specs.Prelude.{◌≡◌, OnOk};
 ghost use Rattle.pic_num.specs.Limits.{most_value};
 ghost use Rattle.pic_num.specs.Push.{unless};
+ghost use Rattle.pic_block.specs.Block.{IsAmongCells, IsShaped, AllAtMost};
 ghost use Rattle.pic_grid.specs.Lattice.{EachAtMost};
-ghost use Rattle.pic_grid.specs.Block.{IsAmongCells, IsShaped, AllAtMost};
 ghost use Rattle.pic_field.specs.FieldPhases.{stop_of_half, AllBounded, IsHalfStep};
 
 use crate::faults::safe_most;
 use crate::rooms::Rooms;
 use crate::row::Scaled;
 use crate::sweep::{Sweep, advance};
-use pic_grid::{Block, Lattice, Phase, Stop};
+use pic_block::Block;
+use pic_grid::{Lattice, Phase, Stop};
 use pic_num::Scales;
 
 /// Half a step of B at every place of a block: each value less the curl of the scaled E. The zone

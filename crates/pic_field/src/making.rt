@@ -4,16 +4,17 @@ ghost use Rattle.std.specs.Prelude.{◌≡◌, ◌<◌};
 ghost use Rattle.pic_num.specs.declared.axis.Axis.{Axis as AxisName};
 ghost use Rattle.pic_num.specs.Limits.{most_value};
 ghost use Rattle.pic_num.specs.Space.{Triple};
-ghost use Rattle.pic_grid.specs.Cells.{IsWithin};
+ghost use Rattle.pic_block.specs.Cells.{IsWithin};
+ghost use Rattle.pic_block.specs.Block.{IsAmongCells, IsShaped, inner_at};
 ghost use Rattle.pic_grid.specs.Lattice.{EachAtMost};
-ghost use Rattle.pic_grid.specs.Block.{IsAmongCells, IsShaped, inner_at};
 ghost use Rattle.pic_field.specs.Lines.{HasCells, OnRow, OnLine, OnLayer, OnStrip, Changed, line_start};
 ghost use Rattle.pic_field.specs.Makings.{CanMake, made_by};
 ghost use Rattle.pic_field.specs.Rows.{start_cell, IsStart};
 
 use crate::row::{Scaled, Start, lessen_row, scaled_row, start_at};
 use crate::zone::{cell_in, is_empty, line_length};
-use pic_grid::{Block, Lattice};
+use pic_block::Block;
+use pic_grid::Lattice;
 use pic_num::{Axis, Mult};
 
 /// What is made of a block's value from a field's at its place: the field's value scaled, or the

@@ -4,7 +4,7 @@ ghost use Rattle.std.specs.Prelude.{◌≡◌, ◌+◌, ◌<◌, ◌≤◌, IsTr
 ghost use Rattle.pic_num.specs.Limits.{most_cells_of_axis, most_value};
 ghost use Rattle.pic_num.specs.Sizes.{IsAtMost};
 ghost use Rattle.pic_num.specs.Space.{triple};
-ghost use Rattle.pic_grid.specs.Cells.{IsWithin};
+ghost use Rattle.pic_block.specs.Cells.{IsWithin};
 ghost use Rattle.pic_grid.specs.Lattice.{EachAtMost};
 ghost use Rattle.pic_grid.specs.Slot.{IsSlotX, IsSlotY, IsSlotZ};
 ghost use Rattle.pic_field.specs.Beside.{first_index};

@@ -4,14 +4,15 @@ ghost use Rattle.std.specs.Prelude.{◌≡◌, ◌+ℤ◌, ◌-ℤ◌};
 ghost use Rattle.pic_num.specs.declared.axis.Axis.{Axis as AxisName};
 ghost use Rattle.pic_num.specs.Limits.{most_value};
 ghost use Rattle.pic_num.specs.Space.{Triple, triple};
-ghost use Rattle.pic_grid.specs.Block.{IsAmongCells, IsShaped, AllAtMost, inner_at, outer_of};
-ghost use Rattle.pic_grid.specs.Cells.{IsWithin};
+ghost use Rattle.pic_block.specs.Block.{IsAmongCells, IsShaped, AllAtMost, inner_at, outer_of};
+ghost use Rattle.pic_block.specs.Cells.{IsWithin};
 ghost use Rattle.pic_grid.specs.Differences.{curl_b};
 ghost use Rattle.pic_grid.specs.Lattice.{EachAtMost, value_at};
 ghost use Rattle.pic_field.specs.FieldPhases.{most_drive_value, most_lessened};
 
 use crate::zone::{cell_in, place_count};
-use pic_grid::{Block, Lattice, Place};
+use pic_block::{Block, Place};
+use pic_grid::Lattice;
 use pic_num::Axis;
 
 /// Adds to every value of a block the curl of a lattice there, less what a block of its zone has

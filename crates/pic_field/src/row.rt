@@ -5,7 +5,7 @@ ghost use Rattle.pic_num.specs.Limits.{most_scaled, most_value};
 ghost use Rattle.pic_num.specs.Rounding.{rounded, scaled};
 ghost use Rattle.pic_num.specs.Sizes.{IsAtMost};
 ghost use Rattle.pic_num.specs.Space.{triple};
-ghost use Rattle.pic_grid.specs.Cells.{IsWithin};
+ghost use Rattle.pic_block.specs.Cells.{IsWithin};
 ghost use Rattle.pic_grid.specs.Lattice.{EachAtMost, value_at};
 ghost use Rattle.pic_field.specs.FieldPhases.{most_lessened, most_raised};
 ghost use Rattle.pic_field.specs.Rows.{most_row, read_by, row_at, curl_at, start_cell, IsSmallRow, IsStart, IsScaledRow, AreCurlRows};

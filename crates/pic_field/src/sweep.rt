@@ -8,9 +8,9 @@ ghost use Rattle.pic_num.specs.Limits.{most_value};
 ghost use Rattle.pic_num.specs.Push.{unless};
 ghost use Rattle.pic_num.specs.Sizes.{IsAtMost};
 ghost use Rattle.pic_num.specs.Space.{Triple};
-ghost use Rattle.pic_grid.specs.Cells.{IsWithin};
+ghost use Rattle.pic_block.specs.Cells.{IsWithin};
+ghost use Rattle.pic_block.specs.Block.{IsAmongCells, AllAtMost, inner_at, outer_of};
 ghost use Rattle.pic_grid.specs.Lattice.{EachAtMost};
-ghost use Rattle.pic_grid.specs.Block.{IsAmongCells, AllAtMost, inner_at, outer_of};
 ghost use Rattle.pic_field.specs.FieldPhases.{lowest, least_fault, IsBounded, AllBounded, most_lessened};
 ghost use Rattle.pic_field.specs.Lines.{HasCells, OnRow, OnLine, OnLines, OnStrip, Changed, AreSmall};
 ghost use Rattle.pic_field.specs.Rows.{curl_at, AreCurlRows};
@@ -24,7 +24,8 @@ use crate::plane::{
 use crate::rooms::Rooms;
 use crate::row::{CurlRows, Scaled, curl_row, part};
 use crate::zone::{beside_in_z, corner_in, is_empty, layer_of, line_length};
-use pic_grid::{Block, Phase, Stop};
+use pic_block::Block;
+use pic_grid::{Phase, Stop};
 use pic_num::{Axis, Mult};
 
 /// What a sweep over a block makes its values from.

@@ -4,12 +4,13 @@ ghost use Rattle.std.specs.Prelude.{◌≡◌, ◌*◌, ◌<◌, ◌≤◌};
 ghost use Rattle.std.specs.Bool.{OnTrue, OnFalse};
 ghost use Rattle.pic_num.specs.Limits.{most_cells_of_axis};
 ghost use Rattle.pic_num.specs.Space.{triple, spot, unwrapped};
-ghost use Rattle.pic_grid.specs.Cells.{IsWithin, count_of};
-ghost use Rattle.pic_grid.specs.Block.{InZone, IsAmongCells, outer_of};
+ghost use Rattle.pic_block.specs.Cells.{IsWithin, count_of};
+ghost use Rattle.pic_block.specs.Block.{InZone, IsAmongCells, outer_of};
 ghost use Rattle.pic_field.specs.Beside.{next_to, plane_room, swept_layer};
 ghost use Rattle.pic_field.specs.Lines.{HasCells, line_start};
 
-use pic_grid::{Cells, Zone};
+use pic_block::Zone;
+use pic_grid::Cells;
 use pic_num::Axis;
 
 /// How many places a block has whose zone lies among the cells.

@@ -4,13 +4,13 @@ use Rattle.std.proofs.lemmas.List.{take_at}
 use Rattle.pic_num.specs.declared.axis.Axis.{Axis}
 use Rattle.pic_num.specs.Sizes.{IsAtMost}
 use Rattle.pic_num.specs.Space.{Triple}
-use Rattle.pic_grid.specs.Block.{BlockValues, IsAmongCells, AllAtMost, inner_of, inner_at, outer_of}
-use Rattle.pic_grid.specs.Cells.{IsWithin}
+use Rattle.pic_block.specs.Block.{BlockValues, IsAmongCells, AllAtMost, inner_of, inner_at, outer_of}
+use Rattle.pic_block.specs.Cells.{IsWithin}
+use Rattle.pic_block.specs.Lending.{with_values}
+use Rattle.pic_block.proofs.BlockLaws.{inner_within}
 use Rattle.pic_grid.specs.Copying.{AreValuesOf}
 use Rattle.pic_grid.specs.Lattice.{Field, EachAtMost, value_at}
-use Rattle.pic_grid.specs.Lending.{with_values}
 use Rattle.pic_grid.specs.Parts.{origin}
-use Rattle.pic_grid.proofs.BlockLaws.{inner_within}
 use Rattle.pic_grid.proofs.CopyLaws.{copied_block}
 use Rattle.pic_grid.proofs.LatticeLaws.{value_at-field_of}
 use Rattle.pic_filter.specs.Smoothing.{most_to_smooth, most_smoothed, smoothed, smoothed_each, smoothed_field}

@@ -10,7 +10,7 @@ use Rattle.std.proofs.Math.Nat.{mod-add-mod, mod-eq_of_lt}
 use borrow.Author.Count.{below_more}
 use Rattle.pic_num.specs.Sizes.{IsAtMost}
 use Rattle.pic_num.specs.Space.{Triple}
-use Rattle.pic_grid.specs.Cells.{IsWithin}
+use Rattle.pic_block.specs.Cells.{IsWithin}
 use Rattle.pic_filter.specs.declared.kept.Kept.{Kept}
 use Rattle.pic_filter.specs.Kept.{none_kept, kept_at, taken, row_cell, IsSmall, AreSmall}
 use Rattle.pic_filter.specs.Runs.{most_of_three}

@@ -2,9 +2,9 @@
 use Rattle.std.proofs.Common.{◌≡◌, ◌≢◌, ℕ, ℤ, pos, ◌+◌, ◌<◌, ◌∙◌, ap, arith}
 use Rattle.std.proofs.lemmas.List.{get_or-set_other}
 use Rattle.pic_num.specs.Space.{Triple}
-use Rattle.pic_grid.specs.Cells.{IsWithin, count_of, index_of}
+use Rattle.pic_block.specs.Cells.{IsWithin, count_of, index_of}
+use Rattle.pic_block.proofs.CellLaws.{index_of_below, cells_more}
 use Rattle.pic_grid.specs.Lattice.{NodeValues, node_at, with_node}
-use Rattle.pic_grid.proofs.CellLaws.{index_of_below, cells_more}
 
 -- every node below a number has the number of g
 pub record AreGiven (n : Triple) (g : Triple → ℤ) (i : ℕ) (nodes : NodeValues) : Type 0 where

@@ -5,11 +5,11 @@ use Rattle.std.proofs.Math.Nat.{mod-eq_of_lt}
 use Rattle.pic_num.specs.declared.axis.Axis.{Axis}
 use Rattle.pic_num.specs.declared.axis.Axis.TheVariants.{Y, Z}
 use Rattle.pic_num.specs.Space.{Triple, next_axis}
-use Rattle.pic_grid.specs.Cells.{IsWithin, count_of, place_of}
+use Rattle.pic_block.specs.Cells.{IsWithin, count_of, place_of}
+use Rattle.pic_block.proofs.BlockRowLaws.{rows_of}
+use Rattle.pic_block.proofs.CellLaws.{place_of_same, place_of_below}
+use Rattle.pic_block.proofs.PlaceLaws.{row_end, layer_end, axis_end}
 use Rattle.pic_grid.specs.Differences.{up}
-use Rattle.pic_grid.proofs.BlockRowLaws.{rows_of}
-use Rattle.pic_grid.proofs.CellLaws.{place_of_same, place_of_below}
-use Rattle.pic_grid.proofs.PlaceLaws.{row_end, layer_end, axis_end}
 use Rattle.pic_filter.specs.declared.kept.Kept.{Kept}
 use Rattle.pic_filter.specs.Kept.{HoldLines}
 use Rattle.pic_filter.specs.Smoothing.{smoothed_along}

@@ -4,13 +4,13 @@ use Rattle.std.proofs.Math.Nat.{mod-add-mod, mod-eq_of_lt, add-mod_right}
 use Rattle.pic_num.specs.declared.axis.Axis.{Axis}
 use Rattle.pic_num.specs.declared.axis.Axis.TheVariants.{Y, Z}
 use Rattle.pic_num.specs.Space.{Triple}
-use Rattle.pic_grid.specs.Cells.{IsWithin, count_of, index_of, place_of}
+use Rattle.pic_block.specs.Cells.{IsWithin, count_of, index_of, place_of}
+use Rattle.pic_block.specs.Rows.{row_of}
+use Rattle.pic_block.proofs.BlockRowLaws.{rows_of}
+use Rattle.pic_block.proofs.RowLaws.{row_fits}
 use Rattle.pic_grid.specs.Copying.{IsRunOf}
 use Rattle.pic_grid.specs.Lattice.{Field, value_at}
-use Rattle.pic_grid.specs.Rows.{row_of}
-use Rattle.pic_grid.proofs.BlockRowLaws.{rows_of}
 use Rattle.pic_grid.proofs.LatticeLaws.{value_at-field_of}
-use Rattle.pic_grid.proofs.RowLaws.{row_fits}
 use Rattle.pic_filter.specs.declared.kept.Kept.{Kept}
 use Rattle.pic_filter.specs.Kept.{kept_at, row_cell}
 use Rattle.pic_filter.specs.Runs.{number_at}

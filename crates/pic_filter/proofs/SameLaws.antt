@@ -3,7 +3,7 @@ use Rattle.std.proofs.Common.{◌≡◌, ℤ}
 use Rattle.pic_num.specs.declared.axis.Axis.{Axis}
 use Rattle.pic_num.specs.declared.axis.Axis.TheVariants.{X, Y, Z}
 use Rattle.pic_num.specs.Space.{Triple}
-use Rattle.pic_grid.specs.Cells.{IsWithin}
+use Rattle.pic_block.specs.Cells.{IsWithin}
 use Rattle.pic_grid.specs.Differences.{up, down}
 use Rattle.pic_filter.specs.Smoothing.{weighted, smoothed_along, smoothed}
 use Rattle.pic_filter.proofs.SizeLaws.{up_within, down_within}

@@ -9,7 +9,7 @@ use Rattle.pic_num.specs.declared.axis.Axis.TheVariants.{X, Y, Z}
 use Rattle.pic_num.specs.Sizes.{IsAtMost}
 use Rattle.pic_num.specs.Space.{Triple}
 use Rattle.pic_num.proofs.SizeLaws.{codes, code_is, at_most_more}
-use Rattle.pic_grid.specs.Cells.{IsWithin}
+use Rattle.pic_block.specs.Cells.{IsWithin}
 use Rattle.pic_grid.specs.Differences.{up, down}
 use Rattle.pic_filter.specs.Runs.{most_across}
 use Rattle.pic_filter.specs.Smoothing.{weighted, smoothed_along, smoothed, most_to_smooth, most_smoothed}

@@ -4,11 +4,11 @@ use Rattle.std.specs.Prelude.{◌≡◌, ℕ, ℤ, pos, ◌+◌, ◌^◌, ◌<�
 use Rattle.pic_num.specs.declared.axis.Axis.{Axis}
 use Rattle.pic_num.specs.declared.axis.Axis.TheVariants.{Z}
 use Rattle.pic_num.specs.Space.{Triple}
-use Rattle.pic_grid.specs.BlockLayers.{NumbersAtMost}
+use Rattle.pic_block.specs.BlockLayers.{NumbersAtMost}
+use Rattle.pic_block.specs.Rows.{part_end}
 use Rattle.pic_grid.specs.Differences.{up, down}
 use Rattle.pic_grid.specs.Lattice.{Field, value_at}
 use Rattle.pic_grid.specs.Parts.{part_size}
-use Rattle.pic_grid.specs.Rows.{part_end}
 use Rattle.pic_grid.specs.Slot.{IsSlotZ}
 use Rattle.pic_filter.specs.Smoothing.{weighted}
 use Rattle.pic_filter.specs.declared.runs.Slots.{Slots}

@@ -5,7 +5,7 @@ ghost use Rattle.std.specs.Bool.{OnFalse};
 ghost use Rattle.pic_num.specs.declared.axis.Axis.TheVariants.{Z};
 ghost use Rattle.pic_num.specs.Sizes.{IsAtMost};
 ghost use Rattle.pic_num.specs.Space.{triple};
-ghost use Rattle.pic_grid.specs.Cells.{IsWithin};
+ghost use Rattle.pic_block.specs.Cells.{IsWithin};
 ghost use Rattle.pic_grid.specs.Lattice.{EachAtMost, value_at};
 ghost use Rattle.pic_filter.specs.Smoothing.{smoothed_along, most_to_smooth};
 ghost use Rattle.pic_filter.specs.Runs.{most_of_three, three_at, HoldThree};

@@ -4,7 +4,7 @@ ghost use Rattle.std.specs.Prelude.{◌≡◌};
 ghost use Rattle.pic_num.specs.declared.axis.Axis.TheVariants.{X, Y};
 ghost use Rattle.pic_num.specs.Sizes.{IsAtMost};
 ghost use Rattle.pic_num.specs.Space.{Triple, triple};
-ghost use Rattle.pic_grid.specs.Cells.{IsWithin};
+ghost use Rattle.pic_block.specs.Cells.{IsWithin};
 ghost use Rattle.pic_grid.specs.Lattice.{node_at};
 ghost use Rattle.pic_filter.specs.Runs.{most_across};
 ghost use Rattle.pic_filter.specs.Smoothing.{smoothed_along, smoothed, most_to_smooth, most_smoothed};

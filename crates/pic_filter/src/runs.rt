@@ -3,7 +3,7 @@
 ghost use Rattle.std.specs.Prelude.{◌≡◌, ◌+◌};
 ghost use Rattle.pic_num.specs.Sizes.{IsAtMost};
 ghost use Rattle.pic_num.specs.Space.{triple};
-ghost use Rattle.pic_grid.specs.Cells.{IsWithin};
+ghost use Rattle.pic_block.specs.Cells.{IsWithin};
 ghost use Rattle.pic_grid.specs.Slot.{IsSlotX, IsSlotY};
 ghost use Rattle.pic_filter.specs.Smoothing.{most_to_smooth};
 ghost use Rattle.pic_filter.specs.Runs.{most_of_three, three_at, AreSlots, AreRound, AreThree, HoldThree};

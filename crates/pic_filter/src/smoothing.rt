@@ -4,8 +4,8 @@ ghost use Rattle.std.specs.Prelude.{◌≡◌, ℕ, pos, ◌+◌, ◌*◌, ◌<�
 ghost use Rattle.pic_num.specs.declared.axis.Axis.{Axis as AxisName};
 ghost use Rattle.pic_num.specs.declared.axis.Axis.TheVariants.{Y, Z};
 ghost use Rattle.pic_num.specs.Space.{Triple, triple, spot};
-ghost use Rattle.pic_grid.specs.Block.{IsAmongCells, IsShaped, AllAtMost, inner_at, outer_of};
-ghost use Rattle.pic_grid.specs.Cells.{IsWithin, count_of};
+ghost use Rattle.pic_block.specs.Block.{IsAmongCells, IsShaped, AllAtMost, inner_at, outer_of};
+ghost use Rattle.pic_block.specs.Cells.{IsWithin, count_of};
 ghost use Rattle.pic_grid.specs.Copying.{IsRunOf, AreValuesOf};
 ghost use Rattle.pic_grid.specs.Differences.{up};
 ghost use Rattle.pic_grid.specs.Lattice.{EachAtMost, value_at};
@@ -15,7 +15,8 @@ ghost use Rattle.pic_filter.specs.Smoothing.{smoothed, smoothed_along, smoothed_
 
 use crate::kept::{Kept, NONE, make_ready, take_in};
 use crate::weights::weigh_row;
-use pic_grid::{Block, Cells, Lattice, Place, Zone};
+use pic_block::{Block, Place, Zone};
+use pic_grid::{Cells, Lattice};
 use pic_num::Axis;
 
 /// For how many cells of a row there is room: two more than the most cells of an axis.

@@ -6,11 +6,11 @@ use Rattle.std.proofs.lemmas.Int.{ints}
 use Rattle.pic_num.specs.declared.axis.Axis.{Axis}
 use Rattle.pic_num.specs.Space.{Spot}
 use Rattle.pic_num.proofs.ProductLaws.{plus_none}
+use Rattle.pic_block.specs.Block.{BlockValues, IsShaped, AllAtMost, edge_at}
+use Rattle.pic_block.proofs.BlockLaws.{in_zone_shaped}
+use Rattle.pic_block.proofs.ShapeLaws.{shaped_back}
 use Rattle.pic_grid.specs.Sums.{sum_over}
-use Rattle.pic_grid.specs.Block.{BlockValues, IsShaped, AllAtMost, edge_at}
 use Rattle.pic_grid.proofs.OverLaws.{sum_over_more}
-use Rattle.pic_grid.proofs.BlockLaws.{in_zone_shaped}
-use Rattle.pic_grid.proofs.ShapeLaws.{shaped_back}
 use Rattle.pic_flux.specs.Adds.{Adds, SumsBelow, flux_limit}
 use Rattle.pic_flux.specs.Corners.{both}
 

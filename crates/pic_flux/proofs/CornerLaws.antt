@@ -8,15 +8,15 @@ use Rattle.pic_num.specs.declared.axis.Axis.TheVariants.{X, Y, Z}
 use Rattle.pic_num.specs.Flux.{simpson}
 use Rattle.pic_num.specs.Space.{Spot, along, next_axis}
 use Rattle.pic_num.proofs.Ring.{ring, reads}
+use Rattle.pic_block.specs.Block.{BlockValues, IsShaped}
+use Rattle.pic_block.specs.Rows.{lifted}
+use Rattle.pic_block.proofs.BlockLaws.{shaped_twice}
 use Rattle.pic_grid.specs.Flux.{edge_weight, flux}
 use Rattle.pic_grid.specs.Path.{same_int}
 use Rattle.pic_grid.specs.Segment.{Piece, IsInCell}
-use Rattle.pic_grid.specs.Block.{BlockValues, IsShaped}
 use Rattle.pic_grid.proofs.TwoHatLaws.{only}
 use Rattle.pic_flux.specs.Adds.{Adds}
-use Rattle.pic_grid.specs.Rows.{lifted}
 use Rattle.pic_flux.specs.Corners.{at_edge, at_corners, on_axis, both, face_weight, corner}
-use Rattle.pic_grid.proofs.BlockLaws.{shaped_twice}
 use Rattle.pic_flux.proofs.AddsLaws.{adds_same, adds_twice}
 use Rattle.pic_flux.proofs.OnlyLaws.{one, if_is, face_hats}
 

@@ -9,15 +9,15 @@ use Rattle.pic_num.specs.declared.axis.Axis.TheVariants.{X, Y, Z}
 use Rattle.pic_num.specs.Sizes.{IsAtMost}
 use Rattle.pic_num.specs.Space.{Triple, Spot, next_axis}
 use Rattle.pic_num.proofs.ProductLaws.{plus_none}
+use Rattle.pic_block.specs.Cells.{count_of, place_of}
+use Rattle.pic_block.specs.Fours.{AreFound, added_in, added_where, four_added}
+use Rattle.pic_block.specs.Rows.{lifted}
+use Rattle.pic_block.specs.declared.fours.Four.{Four}
+use Rattle.pic_block.specs.declared.fours.Found.{Found}
+use Rattle.pic_block.proofs.FourLaws.{length-added_in}
+use Rattle.pic_block.specs.Block.{BlockValues, InZone, inner_of, edge_at, with_edge}
+use Rattle.pic_block.proofs.BlockLaws.{edge_same, edge_at-same, edge_at-other}
 use Rattle.pic_grid.specs.Path.{same_int}
-use Rattle.pic_grid.specs.Cells.{count_of, place_of}
-use Rattle.pic_grid.specs.Fours.{AreFound, added_in, added_where, four_added}
-use Rattle.pic_grid.specs.Rows.{lifted}
-use Rattle.pic_grid.specs.declared.fours.Four.{Four}
-use Rattle.pic_grid.specs.declared.fours.Found.{Found}
-use Rattle.pic_grid.proofs.FourLaws.{length-added_in}
-use Rattle.pic_grid.specs.Block.{BlockValues, InZone, inner_of, edge_at, with_edge}
-use Rattle.pic_grid.proofs.BlockLaws.{edge_same, edge_at-same, edge_at-other}
 use Rattle.pic_flux.proofs.AddsLaws.{adds_twice}
 use Rattle.pic_flux.specs.Adds.{Adds}
 use Rattle.pic_flux.specs.CellFlux.{at_four, all_four}

@@ -10,7 +10,7 @@ use Rattle.pic_num.specs.declared.axis.Axis.{Axis}
 use Rattle.pic_num.specs.Sizes.{IsAtMost}
 use Rattle.pic_num.specs.Space.{Spot, along}
 use Rattle.pic_num.proofs.SizeLaws.{codes, code_is}
-use Rattle.pic_grid.specs.Block.{BlockValues, AllAtMost, edge_at}
+use Rattle.pic_block.specs.Block.{BlockValues, AllAtMost, edge_at}
 use Rattle.pic_grid.specs.Flux.{flux, path_flux}
 use Rattle.pic_grid.specs.Segment.{Piece, IsInside, IsInCell}
 use Rattle.pic_grid.specs.Ways.{GoAtMost}

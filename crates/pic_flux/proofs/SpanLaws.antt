@@ -6,10 +6,10 @@ use Rattle.pic_num.specs.declared.axis.Axis.{Axis}
 use Rattle.pic_num.specs.declared.axis.Axis.TheVariants.{X, Y, Z}
 use Rattle.pic_num.specs.Space.{Spot, along, next_axis}
 use Rattle.pic_num.proofs.Ring.{ring, reads}
+use Rattle.pic_block.specs.Block.{BlockValues}
+use Rattle.pic_block.specs.Rows.{lifted}
 use Rattle.pic_grid.specs.Flux.{flux}
 use Rattle.pic_grid.specs.Segment.{Piece, IsInCell}
-use Rattle.pic_grid.specs.Block.{BlockValues}
-use Rattle.pic_grid.specs.Rows.{lifted}
 use Rattle.pic_flux.specs.Adds.{Adds}
 use Rattle.pic_flux.proofs.AddsLaws.{adds_none}
 use Rattle.std.specs.Prelude.{if◌then◌else◌}

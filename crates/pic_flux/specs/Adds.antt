@@ -3,7 +3,7 @@
 use Rattle.std.specs.Prelude.{◌≡◌, ℕ, ℤ, ◌^◌, ◌<◌, ◌+◌, ◌+ℤ◌, unsigned_abs}
 use Rattle.pic_num.specs.declared.axis.Axis.{Axis}
 use Rattle.pic_num.specs.Space.{Spot}
-use Rattle.pic_grid.specs.Block.{BlockValues, InZone, AllAtMost, edge_at}
+use Rattle.pic_block.specs.Block.{BlockValues, InZone, AllAtMost, edge_at}
 
 -- at every edge of the zone the new value is the old one plus what f gives there. A block has no
 -- other values, so where its zone stays too, nothing else changes.

@@ -4,10 +4,10 @@ use Rattle.pic_num.specs.declared.axis.Axis.{Axis}
 use Rattle.pic_num.specs.declared.axis.Axis.TheVariants.{X, Y, Z}
 use Rattle.pic_num.specs.Sizes.{IsAtMost}
 use Rattle.pic_num.specs.Space.{Triple, Spot, spot}
-use Rattle.pic_grid.specs.Among.{IsOneOf}
-use Rattle.pic_grid.specs.Fours.{AreSmall}
-use Rattle.pic_grid.specs.declared.fours.Four.{Four}
-use Rattle.pic_grid.specs.declared.fours.Found.{Found}
+use Rattle.pic_block.specs.Among.{IsOneOf}
+use Rattle.pic_block.specs.Fours.{AreSmall}
+use Rattle.pic_block.specs.declared.fours.Four.{Four}
+use Rattle.pic_block.specs.declared.fours.Found.{Found}
 use Rattle.pic_flux.specs.declared.edges.Layers.{Layers}
 use Rattle.pic_flux.specs.declared.cell_flux.CellFlux.{CellFlux}
 use Rattle.pic_flux.specs.Corners.{at_corners, both}

@@ -6,9 +6,9 @@ use Rattle.pic_num.specs.declared.axis.Axis.{Axis}
 use Rattle.pic_num.specs.declared.axis.Axis.TheVariants.{X, Y, Z}
 use Rattle.pic_num.specs.Flux.{simpson}
 use Rattle.pic_num.specs.Space.{Triple, Spot, along, next_axis}
-use Rattle.pic_grid.specs.Block.{InZone}
+use Rattle.pic_block.specs.Block.{InZone}
+use Rattle.pic_block.specs.Rows.{lifted}
 use Rattle.pic_grid.specs.Path.{same_int}
-use Rattle.pic_grid.specs.Rows.{lifted}
 use Rattle.pic_grid.specs.Segment.{Piece}
 
 -- whether two axes are one

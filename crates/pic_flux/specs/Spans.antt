@@ -7,8 +7,8 @@ use Rattle.pic_num.specs.declared.axis.Axis.{Axis}
 use Rattle.pic_num.specs.declared.axis.Axis.TheVariants.{X, Y, Z}
 use Rattle.pic_num.specs.Sizes.{IsAtMost}
 use Rattle.pic_num.specs.Space.{along, next_axis}
+use Rattle.pic_block.specs.declared.fours.Four.{Four}
 use Rattle.pic_grid.specs.Segment.{Piece}
-use Rattle.pic_grid.specs.declared.fours.Four.{Four}
 use Rattle.pic_flux.specs.Corners.{weight_of}
 use Rattle.pic_flux.specs.declared.spans.Ends.{Ends}
 use Rattle.pic_flux.specs.declared.spans.Spans.{Spans}

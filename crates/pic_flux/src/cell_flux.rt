@@ -3,16 +3,17 @@
 ghost use Rattle.std.specs.Prelude.{◌≡◌, ◌^◌};
 ghost use Rattle.pic_num.specs.declared.axis.Axis.{Axis};
 ghost use Rattle.pic_num.specs.Space.{Spot};
+ghost use Rattle.pic_block.specs.Block.{IsShaped, AllAtMost};
 ghost use Rattle.pic_grid.specs.Flux.{flux};
 ghost use Rattle.pic_grid.specs.Segment.{IsInCell};
-ghost use Rattle.pic_grid.specs.Block.{IsShaped, AllAtMost};
 ghost use Rattle.pic_flux.specs.Adds.{Adds};
 ghost use Rattle.pic_flux.specs.CellFlux.{edge_flux, flux_cell, IsModest, AreLayers, most_before_flux};
 
 use crate::edges::{Layers, add_corners, edges_in, layers_in};
 use crate::four::four_of;
 use crate::spans::Spans;
-use pic_grid::{Block, Four, Segment};
+use pic_block::{Block, Four};
+use pic_grid::Segment;
 use pic_num::{Axis, Sub};
 
 /// The flux through the twelve edges of a cell, in twelfths of a charge times a cubic sub-cell:

@@ -3,9 +3,9 @@
 ghost use Rattle.std.specs.Prelude.{ℕ, ◌*◌, ◌^◌, unsigned_abs, take};
 ghost use Rattle.std.specs.List.{All};
 ghost use Rattle.pic_flux.specs.CellFlux.{most_before_flux};
+ghost use Rattle.pic_block.specs.Block.{IsShaped, AllAtMost};
 ghost use Rattle.pic_grid.specs.Flux.{flux, path_flux};
 ghost use Rattle.pic_grid.specs.Segment.{IsInCell};
-ghost use Rattle.pic_grid.specs.Block.{IsShaped, AllAtMost};
 ghost use Rattle.pic_grid.specs.Ways.{GoAtMost};
 ghost use Rattle.pic_flux.specs.Adds.{Adds, SumsBelow, GrowsBy};
 ghost use Rattle.pic_flux.specs.Corners.{HasEdges};
@@ -13,7 +13,8 @@ ghost use Rattle.pic_flux.specs.Corners.{HasEdges};
 use crate::cell_flux::CellFlux;
 use crate::edges::{deposit_axis, has_edges};
 use crate::spans::Spans;
-use pic_grid::{Block, Segment, Track};
+use pic_block::Block;
+use pic_grid::{Segment, Track};
 use pic_num::{Axis, Sub};
 
 /// Adds the flux of the charge `q` on a segment to those of the twelve edges of its cell that lie,

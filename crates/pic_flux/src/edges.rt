@@ -3,8 +3,8 @@
 ghost use Rattle.std.specs.Prelude.{◌≡◌, pos, ◌^◌, ◌+ℤ◌, ◌≤ℤ◌, ◌<ℤ◌, ◌↔◌, IsTrue};
 ghost use Rattle.pic_num.specs.Sizes.{IsAtMost};
 ghost use Rattle.pic_num.specs.Space.{spot};
-ghost use Rattle.pic_grid.specs.Block.{IsShaped, AllAtMost};
-ghost use Rattle.pic_grid.specs.Fours.{IsBase, base_cell, AreFound, AreSmall};
+ghost use Rattle.pic_block.specs.Block.{IsShaped, AllAtMost};
+ghost use Rattle.pic_block.specs.Fours.{IsBase, base_cell, AreFound, AreSmall};
 ghost use Rattle.pic_flux.specs.Adds.{Adds};
 ghost use Rattle.pic_flux.specs.CellFlux.{at_four, all_four, AreLayers, AreTrue};
 ghost use Rattle.pic_flux.specs.Corners.{HasEdges};
@@ -12,7 +12,7 @@ ghost use Rattle.pic_flux.specs.Spans.{IsShort, four_by};
 
 use crate::four::four_of;
 use crate::spans::Spans;
-use pic_grid::{Base, Block, Found, Four, Zone, is_among};
+use pic_block::{Base, Block, Found, Four, Zone, is_among};
 use pic_num::Axis;
 
 /// Which layers of a cell a block has: on each axis the cell's own, and the next one up.

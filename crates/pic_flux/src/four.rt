@@ -3,11 +3,11 @@
 
 ghost use Rattle.std.specs.Prelude.{◌≡◌, pos, ◌*◌, ◌^◌, ◌+ℤ◌, ◌-ℤ◌, ◌*ℤ◌};
 ghost use Rattle.pic_num.specs.Sizes.{IsAtMost};
-ghost use Rattle.pic_grid.specs.Fours.{AreSmall, most_carried, most_of_weight};
+ghost use Rattle.pic_block.specs.Fours.{AreSmall, most_carried, most_of_weight};
 ghost use Rattle.pic_flux.specs.Spans.{IsShort, four_by};
 
 use crate::spans::Spans;
-use pic_grid::Four;
+use pic_block::Four;
 use pic_num::Axis;
 
 /// The flux of the charge `q` on a segment through the four edges of its cell along `axis`: what it

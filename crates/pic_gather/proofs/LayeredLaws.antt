@@ -5,11 +5,11 @@ use Rattle.pic_num.specs.declared.axis.Axis.{Axis}
 use Rattle.pic_num.specs.Limits.{most_force}
 use Rattle.pic_num.specs.Sizes.{IsAtMost}
 use Rattle.pic_num.specs.Space.{Triple, axis_number}
-use Rattle.pic_grid.specs.Cells.{IsWithin, index_of, place_of}
+use Rattle.pic_block.specs.Cells.{IsWithin, index_of, place_of}
+use Rattle.pic_block.specs.Weak.{most_weak}
+use Rattle.pic_block.proofs.CellLaws.{place_of_below}
 use Rattle.pic_grid.specs.Lattice.{Field, value_at}
 use Rattle.pic_grid.specs.Parts.{IsLayer, IsWeakLayer}
-use Rattle.pic_grid.specs.Weak.{most_weak}
-use Rattle.pic_grid.proofs.CellLaws.{place_of_below}
 use Rattle.pic_gather.specs.Forces.{AreForces, IsForce, row_sum}
 use Rattle.pic_gather.specs.Sides.{IsSide}
 use Rattle.pic_gather.specs.declared.sides.Side.{Side}

@@ -11,8 +11,8 @@ use Rattle.pic_num.specs.Limits.{most_force, most_side}
 use Rattle.pic_num.specs.Sizes.{IsAtMost}
 use Rattle.pic_num.proofs.Ring.{ring, reads}
 use Rattle.pic_num.proofs.SizeLaws.{codes, code_is, code_fits, at_most_more}
+use Rattle.pic_block.specs.Weak.{most_weak}
 use Rattle.pic_grid.specs.Lattice.{Field}
-use Rattle.pic_grid.specs.Weak.{most_weak}
 use Rattle.pic_grid.specs.Pair.{IsPair, weight_in}
 use Rattle.pic_grid.specs.Sums.{sum_below}
 use Rattle.pic_grid.specs.declared.pair.Pair.{Pair}

@@ -1,7 +1,7 @@
 -- What is gathered at a point by its places is the force there.
 use Rattle.std.proofs.Common.{◌≡◌, ◌/◌, subst}
 use Rattle.pic_num.specs.Space.{Triple, Spot}
-use Rattle.pic_grid.specs.Cells.{Grid}
+use Rattle.pic_block.specs.Cells.{Grid}
 use Rattle.pic_grid.specs.Gather.{gathered_e, gathered_b}
 use Rattle.pic_grid.specs.Lattice.{Field, value_at}
 use Rattle.pic_gather.specs.Sides.{ArePlacesOf, Gathers}

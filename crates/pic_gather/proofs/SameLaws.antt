@@ -5,8 +5,8 @@ use Rattle.pic_num.specs.declared.axis.Axis.{Axis}
 use Rattle.pic_num.specs.declared.axis.Axis.TheVariants.{X, Y, Z}
 use Rattle.pic_num.specs.Rounding.{rounded}
 use Rattle.pic_num.specs.Space.{Triple}
+use Rattle.pic_block.specs.Cells.{IsWithin}
 use Rattle.pic_grid.specs.Gather.{gathered, weighted, shifted_weight, gathered_e, gathered_b, offset_e, offset_b}
-use Rattle.pic_grid.specs.Cells.{IsWithin}
 use Rattle.pic_grid.specs.Sums.{sum_cells}
 use Rattle.pic_grid.proofs.SumLaws.{sum_same}
 

@@ -6,7 +6,7 @@ ghost use Rattle.pic_num.specs.Limits.{most_force, most_side};
 ghost use Rattle.pic_num.specs.Rounding.{rounded};
 ghost use Rattle.pic_num.specs.Sizes.{IsAtMost};
 ghost use Rattle.pic_num.specs.Space.{triple};
-ghost use Rattle.pic_grid.specs.Cells.{IsWithin};
+ghost use Rattle.pic_block.specs.Cells.{IsWithin};
 ghost use Rattle.pic_grid.specs.Lattice.{value_at};
 ghost use Rattle.pic_grid.specs.Pair.{IsPair};
 ghost use Rattle.pic_gather.specs.Cube.{IsCubeOf};

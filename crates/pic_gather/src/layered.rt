@@ -5,10 +5,10 @@ ghost use Rattle.std.specs.Prelude.{◌≡◌, pos, ◌+◌, ◌*◌, ◌^◌, �
 ghost use Rattle.pic_num.specs.Limits.{most_force, most_side};
 ghost use Rattle.pic_num.specs.Rounding.{rounded};
 ghost use Rattle.pic_num.specs.Sizes.{IsAtMost};
+ghost use Rattle.pic_block.specs.Weak.{most_weak};
 ghost use Rattle.pic_grid.specs.Parts.{IsLayer};
 ghost use Rattle.pic_gather.specs.Cube.{IsCubeOf};
 ghost use Rattle.pic_gather.specs.Forces.{AreForces, IsForce, whole_sum};
-ghost use Rattle.pic_grid.specs.Weak.{most_weak};
 ghost use Rattle.pic_gather.specs.Sides.{AreSidesOf};
 ghost use Rattle.pic_gather.specs.Weak.{AreWeakLayers};
 

@@ -8,19 +8,19 @@ use Rattle.std.proofs.lemmas.Nat.{mul-add-lt}
 use Rattle.std.proofs.Math.Nat.{mul-le-mul_right}
 use Rattle.pic_num.specs.declared.axis.Axis.{Axis}
 use Rattle.pic_num.specs.Space.{Triple, Spot, unwrapped}
-use Rattle.pic_grid.specs.Block.{BlockValues, InZone, IsAmongCells, inner_of, inner_at, outer_of, edge_at}
-use Rattle.pic_grid.specs.Cells.{Grid, IsWithin, count_of, cell_of, index_of, place_of}
+use Rattle.pic_block.specs.Block.{BlockValues, InZone, IsAmongCells, inner_of, inner_at, outer_of, edge_at, no_block}
+use Rattle.pic_block.specs.Cells.{Grid, IsWithin, count_of, cell_of, index_of, place_of}
+use Rattle.pic_block.specs.Rows.{row_of}
+use Rattle.pic_block.proofs.BlockLaws.{inner_within}
+use Rattle.pic_block.proofs.BlockRowLaws.{rows_of}
+use Rattle.pic_block.proofs.CellLaws.{place_of_same, place_of_below, cell_of_within, index_of_below}
+use Rattle.pic_block.proofs.RowLaws.{place_of-row}
+use Rattle.pic_block.proofs.WrittenLaws.{written_before, written_part, written_long}
 use Rattle.pic_grid.specs.Copying.{IsRunOf, AreValuesOf, IsCopied, AreAmong, AreCopied}
 use Rattle.pic_grid.specs.Lattice.{Field, value_at}
-use Rattle.pic_grid.specs.Parts.{no_block, IsLattice, value_in, joined}
-use Rattle.pic_grid.specs.Rows.{row_of}
-use Rattle.pic_grid.proofs.BlockLaws.{inner_within}
-use Rattle.pic_grid.proofs.BlockRowLaws.{rows_of}
-use Rattle.pic_grid.proofs.CellLaws.{place_of_same, place_of_below, cell_of_within, index_of_below}
+use Rattle.pic_grid.specs.Parts.{IsLattice, value_in, joined}
 use Rattle.pic_grid.proofs.LatticeLaws.{value_at-field_of, is_field_of}
 use Rattle.pic_grid.proofs.PartLaws.{IsAxisCut, cut, block_of, number_of, block_has, part_of_within, value_at-joined}
-use Rattle.pic_grid.proofs.RowLaws.{place_of-row}
-use Rattle.pic_grid.proofs.WrittenLaws.{written_before, written_part, written_long}
 
 -- a row stays as long
 pub filled_long : (row part : List ℤ) (done more : ℕ) → done + more ≤ length row → length part ≡ more

@@ -4,9 +4,9 @@ use Rattle.std.proofs.lemmas.List.{get_or-set_same, get_or-set_other, ext_get_or
 use Rattle.std.proofs.lemmas.List.FromFn.{get_or-map-range_with_len, length-map-range_with_len}
 use Rattle.pic_num.specs.declared.axis.Axis.{Axis}
 use Rattle.pic_num.specs.Space.{Triple}
-use Rattle.pic_grid.specs.Cells.{IsWithin, count_of, cell_of, axis_of, place_of}
+use Rattle.pic_block.specs.Cells.{IsWithin, count_of, cell_of, axis_of, place_of}
+use Rattle.pic_block.proofs.CellLaws.{place_of_below, place_of-number, place_within, axis_of-place_of, cell_of-place_of}
 use Rattle.pic_grid.specs.Lattice.{Field, value_at, with_value, values_of, field_of}
-use Rattle.pic_grid.proofs.CellLaws.{place_of_below, place_of-number, place_within, axis_of-place_of, cell_of-place_of}
 
 -- a value written is read back
 pub value_at-same : (f : Field) (a : Axis) (p : Triple) (v : ℤ) → IsWithin p f.cells → length f.values ≡ 3 * count_of f.cells

@@ -5,11 +5,11 @@ use Rattle.std.proofs.Math.Nat.{div-one, div_self}
 use Rattle.std.proofs.Math.IntN.{ℤ}
 use Rattle.pic_num.specs.Sizes.{IsAtMost}
 use Rattle.pic_num.specs.Space.{Triple, Spot, unwrapped, axis_number}
-use Rattle.pic_grid.specs.Cells.{Grid, IsCells, IsWithin, count_of, index_of, place_of}
+use Rattle.pic_block.specs.Cells.{Grid, IsCells, IsWithin, count_of, index_of, place_of}
+use Rattle.pic_block.specs.Block.{BlockValues, inner_of, edge_at, no_block}
+use Rattle.pic_block.specs.Weak.{most_weak, AreWeak}
 use Rattle.pic_grid.specs.Lattice.{Field, IsParts}
-use Rattle.pic_grid.specs.Block.{BlockValues, inner_of, edge_at}
-use Rattle.pic_grid.specs.Parts.{part_size, part_with, layered, IsPart, no_block, ArePartsOf, joined, IsLayer, IsWeakLayer}
-use Rattle.pic_grid.specs.Weak.{most_weak, AreWeak}
+use Rattle.pic_grid.specs.Parts.{part_size, part_with, layered, IsPart, ArePartsOf, joined, IsLayer, IsWeakLayer}
 use Rattle.pic_grid.proofs.PartLaws.{number_of, block_of, value_at-joined}
 use Rattle.pic_grid.proofs.RunLaws.{here, above_corner}
 

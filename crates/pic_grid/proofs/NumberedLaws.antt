@@ -3,9 +3,9 @@ use Rattle.std.proofs.Common.{ℕ, ◌*◌, ◌/◌, ◌%◌}
 use Rattle.pic_num.specs.declared.axis.Axis.{Axis}
 use Rattle.pic_num.specs.Space.{Triple}
 use Rattle.pic_num.proofs.FirstLaws.{AreNumbered}
-use Rattle.pic_grid.specs.Cells.{IsWithin, count_of, index_of, cell_of, axis_of, place_of}
-use Rattle.pic_grid.proofs.CellLaws.{index_of_below, cell_of-index_of, cell_of_within, index_of-cell_of}
-use Rattle.pic_grid.proofs.CellLaws.{place_of_below, axis_of-place_of, cell_of-place_of, place_within, place_of-number}
+use Rattle.pic_block.specs.Cells.{IsWithin, count_of, index_of, cell_of, axis_of, place_of}
+use Rattle.pic_block.proofs.CellLaws.{index_of_below, cell_of-index_of, cell_of_within, index_of-cell_of}
+use Rattle.pic_block.proofs.CellLaws.{place_of_below, axis_of-place_of, cell_of-place_of, place_within, place_of-number}
 
 pub cells_numbered : (n : Triple) → AreNumbered (λ p. IsWithin p n) (count_of n) (index_of n) (cell_of n)
 cells_numbered n = record {

@@ -14,13 +14,13 @@ use borrow.Author.Count.{below_more}
 use Rattle.pic_num.specs.Limits.{most_cells_of_axis}
 use Rattle.pic_num.specs.declared.axis.Axis.{Axis}
 use Rattle.pic_num.specs.Space.{Triple, Spot, unwrapped}
-use Rattle.pic_grid.specs.Cells.{Grid, IsCells, IsSize, IsWithin, count_of, index_of, cell_of, place_of}
+use Rattle.pic_block.specs.Cells.{Grid, IsCells, IsSize, IsWithin, count_of, index_of, cell_of, place_of}
+use Rattle.pic_block.specs.Block.{BlockValues, InZone, inner_of, edge_at, with_edge, no_block}
+use Rattle.pic_block.proofs.CellLaws.{index_of_below, cell_of-index_of, place_of_below}
+use Rattle.pic_block.proofs.BlockLaws.{edge_same, edge_at-other}
 use Rattle.pic_grid.specs.Lattice.{IsParts, value_at, with_value, values_of}
-use Rattle.pic_grid.specs.Block.{BlockValues, InZone, inner_of, edge_at, with_edge}
-use Rattle.pic_grid.specs.Parts.{part_size, part_with, corner_of, IsPart, no_block, ArePartsOf, IsLattice, value_in, joined}
-use Rattle.pic_grid.proofs.CellLaws.{index_of_below, cell_of-index_of, place_of_below}
+use Rattle.pic_grid.specs.Parts.{part_size, part_with, corner_of, IsPart, ArePartsOf, IsLattice, value_in, joined}
 use Rattle.pic_grid.proofs.LatticeLaws.{value_at-field_of, length-values_of, same_values}
-use Rattle.pic_grid.proofs.BlockLaws.{edge_same, edge_at-other}
 
 -- an axis of n cells is cut into k parts
 pub record IsAxisCut (n k : ℕ) : Type 0 where

@@ -5,12 +5,12 @@ use Rattle.std.proofs.lemmas.Nat.{div-add-mod', div-mul-add}
 use Rattle.std.proofs.Math.Nat.{mul-le-mul_right}
 use Rattle.pic_num.specs.declared.axis.Axis.{Axis}
 use Rattle.pic_num.specs.Space.{Triple, Spot, unwrapped}
-use Rattle.pic_grid.specs.Cells.{IsCells, IsWithin, index_of}
+use Rattle.pic_block.specs.Cells.{IsCells, IsWithin, index_of}
+use Rattle.pic_block.specs.Block.{BlockValues, inner_of, edge_at, inner_at, no_block}
+use Rattle.pic_block.specs.Rows.{part_end}
+use Rattle.pic_block.proofs.CellLaws.{cell_of-index_of, index_of_below}
 use Rattle.pic_grid.specs.Lattice.{IsParts, value_at}
-use Rattle.pic_grid.specs.Block.{BlockValues, inner_of, edge_at, inner_at}
-use Rattle.pic_grid.specs.Parts.{part_size, part_with, IsPart, no_block, ArePartsOf, joined}
-use Rattle.pic_grid.specs.Rows.{part_end}
-use Rattle.pic_grid.proofs.CellLaws.{cell_of-index_of, index_of_below}
+use Rattle.pic_grid.specs.Parts.{part_size, part_with, IsPart, ArePartsOf, joined}
 use Rattle.pic_grid.proofs.PartLaws.{cut, part_size_limits, part_of_within, block_of, value_at-joined}
 
 -- the part of a layer below that part's end

@@ -4,17 +4,17 @@ use Rattle.std.proofs.Common.{◌≡◌, ℕ, pos, ◌+◌, ◌-◌, ◌*◌, �
 use Rattle.std.proofs.lemmas.Nat.{div-add-mod'}
 use Rattle.pic_num.specs.declared.axis.Axis.{Axis}
 use Rattle.pic_num.specs.Space.{Triple, Spot, axis_number, unwrapped}
+use Rattle.pic_block.specs.Block.{BlockValues, inner_of, edge_at, inner_at}
+use Rattle.pic_block.specs.Cells.{Grid, IsWithin, count_of, index_of, place_of}
+use Rattle.pic_block.specs.Rows.{part_end}
+use Rattle.pic_block.proofs.BlockLaws.{inner_within}
+use Rattle.pic_block.proofs.CellLaws.{place_of_below}
+use Rattle.pic_block.proofs.RowLaws.{place_of-row, place_of-along, row_fits, part_at}
 use Rattle.pic_grid.specs.declared.slot.Slot.{Slot}
-use Rattle.pic_grid.specs.Block.{BlockValues, inner_of, edge_at, inner_at}
-use Rattle.pic_grid.specs.Cells.{Grid, IsWithin, count_of, index_of, place_of}
 use Rattle.pic_grid.specs.Lattice.{Field, value_at}
 use Rattle.pic_grid.specs.Parts.{part_size, part_with, corner_of, IsPart, IsLattice, joined}
-use Rattle.pic_grid.specs.Rows.{part_end}
 use Rattle.pic_grid.specs.Slot.{IsSlotX, IsSlotY, IsSlotZ}
-use Rattle.pic_grid.proofs.BlockLaws.{inner_within}
-use Rattle.pic_grid.proofs.CellLaws.{place_of_below}
 use Rattle.pic_grid.proofs.PartLaws.{block_of, block_has, lattice_below, lattice_block, value_at-joined}
-use Rattle.pic_grid.proofs.RowLaws.{place_of-row, place_of-along, row_fits, part_at}
 use Rattle.pic_grid.proofs.RunLaws.{here, above_corner, run_inside, run_value}
 
 number_sum : (a b c px py : ℕ) → a * 1 + b * px + c * (px * py) ≡ (c * py + b) * px + a

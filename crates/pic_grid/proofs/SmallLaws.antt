@@ -3,9 +3,9 @@ use Rattle.std.proofs.Common.{ℕ, zero, suc, ℤ, pos, ◌*◌, List, [], ◌�
 use Rattle.pic_num.specs.declared.axis.Axis.{Axis}
 use Rattle.pic_num.specs.Sizes.{IsAtMost}
 use Rattle.pic_num.specs.Space.{Triple, Spot}
+use Rattle.pic_block.specs.Cells.{count_of, place_of}
+use Rattle.pic_block.specs.Block.{BlockValues, AllAtMost, inner_of, with_edge}
 use Rattle.pic_grid.specs.Lattice.{EachAtMost}
-use Rattle.pic_grid.specs.Cells.{count_of, place_of}
-use Rattle.pic_grid.specs.Block.{BlockValues, AllAtMost, inner_of, with_edge}
 
 small_zeros : (most m j : ℕ) → IsAtMost (slice_index_or (replicate m (pos 0)) j (pos 0)) most
 small_zeros most zero j = record { size = omega arith }

@@ -3,15 +3,15 @@ use Rattle.std.proofs.Common.{◌≡◌, ℕ, ℤ, pos, ◌+◌, ◌*◌, ◌%�
 use Rattle.std.proofs.lemmas.List.{get_or-set_same, length-drop}
 use Rattle.std.proofs.Math.Nat.{div-one}
 use Rattle.pic_num.specs.Space.{Triple, Spot, unwrapped}
-use Rattle.pic_grid.specs.Cells.{Grid, IsCells, IsWithin, count_of, index_of, place_of}
-use Rattle.pic_grid.specs.Lattice.{IsParts, values_of, overwritten, with_places}
-use Rattle.pic_grid.specs.Block.{BlockValues, inner_of, edge_at}
-use Rattle.pic_grid.specs.Parts.{part_size, part_with, one_part, IsPart, no_block, ArePartsOf, IsLattice, value_in, joined}
+use Rattle.pic_block.specs.Cells.{Grid, IsCells, IsWithin, count_of, index_of, place_of}
+use Rattle.pic_block.specs.Block.{BlockValues, inner_of, edge_at, overwritten, no_block}
+use Rattle.pic_block.proofs.WrittenLaws.{written_long}
+use Rattle.pic_grid.specs.Lattice.{IsParts, values_of, with_places}
+use Rattle.pic_grid.specs.Parts.{part_size, part_with, one_part, IsPart, ArePartsOf, IsLattice, value_in, joined}
 use Rattle.pic_grid.proofs.LatticeLaws.{length-values_of, same_values}
 use Rattle.pic_grid.proofs.LayeredLaws.{none_over, whole_rest}
 use Rattle.pic_grid.proofs.PartLaws.{number_of, block_of, value_at-joined, are_parts_with}
 use Rattle.pic_grid.proofs.RunLaws.{here, above_corner}
-use Rattle.pic_grid.proofs.WrittenLaws.{written_long}
 
 -- a list stays as long
 pub length-overwritten : (first : ℕ) (vs xs : List ℤ) → first + length vs ≤ length xs → length (overwritten first vs xs) ≡ length xs

@@ -2,10 +2,9 @@
 use Rattle.std.specs.Prelude.{◌≡◌, ℕ, ℤ, pos, ◌+◌, ◌<◌, List, length, slice_index_or}
 use Rattle.pic_num.specs.declared.axis.Axis.{Axis}
 use Rattle.pic_num.specs.Space.{Triple}
-use Rattle.pic_grid.specs.Block.{BlockValues, IsAmongCells, IsShaped, inner_at, outer_of}
-use Rattle.pic_grid.specs.Cells.{IsWithin, place_of}
+use Rattle.pic_block.specs.Block.{BlockValues, IsAmongCells, IsShaped, inner_at, outer_of, no_block}
+use Rattle.pic_block.specs.Cells.{IsWithin, place_of}
 use Rattle.pic_grid.specs.Lattice.{Field, value_at}
-use Rattle.pic_grid.specs.Parts.{no_block}
 
 -- the first numbers of a row are the components of a lattice on an axis from the cell p on
 pub record IsRunOf (f : Field) (a : Axis) (p : Triple) (count : ℕ) (row : List ℤ) : Type 0 where

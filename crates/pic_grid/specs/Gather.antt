@@ -7,8 +7,8 @@ use Rattle.pic_num.specs.declared.axis.Axis.TheVariants.{X, Y, Z}
 use Rattle.pic_num.specs.Multiplier.{Multiplier}
 use Rattle.pic_num.specs.Rounding.{rounded, scaled}
 use Rattle.pic_num.specs.Space.{Triple, Spot}
+use Rattle.pic_block.specs.Cells.{index_of}
 use Rattle.pic_grid.specs.Hat.{periodic_hat, HasTwo, IsInBox}
-use Rattle.pic_grid.specs.Cells.{index_of}
 use Rattle.pic_grid.specs.Sums.{sum_cells}
 
 -- the force values of a field: its values times a multiplier, each rounded once

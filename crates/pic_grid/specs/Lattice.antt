@@ -1,9 +1,10 @@
-use Rattle.std.specs.Prelude.{◌≡◌, ℤ, pos, ℕ, ◌+◌, ◌*◌, ◌/◌, ◌%◌, ◌≤◌, List, ◌++◌, length, take, drop, map, slice_index_or, slice_set}
+use Rattle.std.specs.Prelude.{◌≡◌, ℤ, pos, ℕ, ◌*◌, ◌/◌, ◌%◌, ◌≤◌, List, map, slice_index_or, slice_set}
 use Rattle.std.specs.List.{range_with_len}
 use Rattle.pic_num.specs.declared.axis.Axis.{Axis}
 use Rattle.pic_num.specs.Sizes.{IsAtMost}
 use Rattle.pic_num.specs.Space.{Triple}
-use Rattle.pic_grid.specs.Cells.{Grid, IsWithin, count_of, index_of, cell_of, axis_of, place_of}
+use Rattle.pic_block.specs.Block.{overwritten}
+use Rattle.pic_block.specs.Cells.{Grid, IsWithin, count_of, index_of, cell_of, axis_of, place_of}
 
 -- a lattice: its numbers of cells, the side of a cell, its numbers of parts, and its 3N values in the
 -- order of places
@@ -37,10 +38,6 @@ pub record EachAtMost (most : ℕ) (f : Field) : Type 0 where
 -- the lattice with that component changed
 abbrev pub with_value : Field → Axis → Triple → ℤ → Field
 with_value f a p v = record f { values = slice_set f.values (place_of f.cells a p) v }
-
--- a list with the elements from the number first on changed to these
-abbrev pub overwritten : ℕ → List ℤ → List ℤ → List ℤ
-overwritten first vs xs = take first xs ++ (vs ++ drop (first + length vs) xs)
 
 -- the lattice with the components from the number first on changed, in the order of places
 abbrev pub with_places : Field → ℕ → List ℤ → Field

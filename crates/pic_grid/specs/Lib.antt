@@ -1,16 +1,8 @@
 pub mod Segment
 pub mod Species
-pub mod Cells
 pub mod Arrays
 pub mod Lattice
-pub mod Among
-pub mod Weak
-pub mod Block
-pub mod Rows
-pub mod Fours
-pub mod Lending
 pub mod Parts
-pub mod BlockLayers
 pub mod Tiles
 pub mod Slot
 pub mod Differences

@@ -3,8 +3,8 @@ use Rattle.std.specs.Prelude.{ℕ, ◌≤◌, List, All, length}
 use Rattle.pic_num.specs.Limits.{most_wave, most_drive}
 use Rattle.pic_num.specs.Sizes.{IsAtMost}
 use Rattle.pic_num.specs.Space.{Triple, triple}
+use Rattle.pic_block.specs.Cells.{IsWithin}
 use Rattle.pic_grid.specs.declared.loops.Loop.{Loop}
-use Rattle.pic_grid.specs.Cells.{IsWithin}
 
 -- a loop round a face of one of the n cells, with a wave that isn't empty nor too long, none of whose numbers is too large
 pub record IsLoop (n : Triple) (l : Loop) : Type 0 where

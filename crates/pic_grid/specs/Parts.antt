@@ -1,12 +1,12 @@
 -- A lattice cut into equal parts, one block for each, x fastest.
-use Rattle.std.specs.Prelude.{◌≡◌, ℕ, ℤ, pos, ◌+◌, ◌*◌, ◌/◌, ◌^◌, ◌<◌, ◌≤◌, List, [], length, slice_index_or}
+use Rattle.std.specs.Prelude.{◌≡◌, ℕ, ℤ, pos, ◌+◌, ◌*◌, ◌/◌, ◌^◌, ◌<◌, ◌≤◌, List, length, slice_index_or}
 use Rattle.pic_num.specs.declared.axis.Axis.{Axis}
 use Rattle.pic_num.specs.Sizes.{IsAtMost}
 use Rattle.pic_num.specs.Space.{Triple, Spot, unwrapped, axis_number}
-use Rattle.pic_grid.specs.Cells.{Grid, IsCells, count_of, index_of, cell_of}
+use Rattle.pic_block.specs.Cells.{Grid, IsCells, count_of, index_of, cell_of}
+use Rattle.pic_block.specs.Block.{BlockValues, edge_at, no_block}
+use Rattle.pic_block.specs.Weak.{most_weak}
 use Rattle.pic_grid.specs.Lattice.{Field, IsParts, value_at, field_of}
-use Rattle.pic_grid.specs.Block.{BlockValues, edge_at}
-use Rattle.pic_grid.specs.Weak.{most_weak}
 
 -- one part on each axis, and the lowest cell of the grid
 abbrev pub one_part : Triple
@@ -35,10 +35,6 @@ corner_of s part = record { x = pos (part.x * s.x); y = pos (part.y * s.y); z = 
 pub record IsPart (s part : Triple) (b : BlockValues) : Type 0 where
   pub low : b.low ≡ corner_of s part
   pub size : b.size ≡ s
-
--- a block of no cells, which stands where a list of blocks has none
-abbrev pub no_block : BlockValues
-no_block = record { low = record { x = pos 0; y = pos 0; z = pos 0 }; size = record { x = 0; y = 0; z = 0 }; values = [] }
 
 -- there is one block per part of n cells, and their zones are the parts', in order
 pub record ArePartsOf (n parts : Triple) (blocks : List BlockValues) : Type 0 where

@@ -1,7 +1,7 @@
 -- Tiles that a grid can be cut into: equal boxes of two cells or more on each axis.
 use Rattle.std.specs.Prelude.{◌≡◌, ℕ, ◌/◌, ◌%◌, ◌≤◌}
 use Rattle.pic_num.specs.Space.{Triple}
-use Rattle.pic_grid.specs.Cells.{count_of}
+use Rattle.pic_block.specs.Cells.{count_of}
 
 -- a grid has at most so many tiles: this project's profile
 abbrev pub most_tiles : ℕ

@@ -3,10 +3,10 @@
 ghost use Rattle.std.specs.Prelude.{◌≡◌, ◌↔◌, ◌≤◌, ◌<◌, ◌*◌, length, IsSome, IfSome};
 ghost use Rattle.pic_num.specs.Limits.{most_cells};
 ghost use Rattle.pic_num.specs.Space.{triple, spot, unwrapped};
-ghost use Rattle.pic_grid.specs.Cells.{Grid, IsCells, IsWithin, count_of, index_of, cell_of, place_of};
+ghost use Rattle.pic_block.specs.Cells.{Grid, IsCells, IsWithin, count_of, index_of, cell_of, place_of};
 ghost use Rattle.pic_grid.specs.Arrays.{array_of_triple};
 
-use crate::places::{index_in, place_in};
+use pic_block::{index_in, place_in};
 use pic_num::{Axis, Sub, unwrapped};
 use std::marker::Model;
 

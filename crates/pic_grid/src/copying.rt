@@ -2,15 +2,13 @@
 
 ghost use Rattle.std.specs.Prelude.{◌≡◌, ℕ, pos, ◌+◌, ◌*◌, ◌^◌, ◌<◌, ◌≤◌, length, slice_index_or};
 ghost use Rattle.pic_num.specs.Space.{triple, spot};
-ghost use Rattle.pic_grid.specs.Block.{IsAmongCells, outer_of};
-ghost use Rattle.pic_grid.specs.Cells.{IsWithin, count_of};
+ghost use Rattle.pic_block.specs.Block.{IsAmongCells, outer_of};
+ghost use Rattle.pic_block.specs.Cells.{IsWithin, count_of};
 ghost use Rattle.pic_grid.specs.Copying.{AreAmong, AreCopied, IsCopied, IsRunOf, AreValuesOf};
 ghost use Rattle.pic_grid.specs.Parts.{origin};
 
-use crate::block::{Block, Zone};
 use crate::lattice::Lattice;
-use crate::places::Place;
-use crate::rows::row_start;
+use pic_block::{Block, Place, Zone, row_start};
 use pic_num::Axis;
 
 impl Lattice {
@@ -30,25 +28,22 @@ fn copy_blocks(from: &Lattice, blocks: &mut [Block])
     ensures { AreCopied from.now blocks.old blocks.new }
 {
     for i in 0..blocks.len() {
-        blocks[i].copy_zone(from);
+        copy_zone(from, &mut blocks[i]);
     }
 }
 
-impl Block {
-    /// Gives it the values that a lattice has in its zone.
-    fn copy_zone(&mut self, from: &Lattice)
-        requires { IsAmongCells self.old.low self.old.size from.now.cells }
-        ensures { IsCopied from.now self.old self.new }
-    {
-        let [nx, _, _] = self.zone.size;
-        if nx == 0 {
-            return;
-        }
-        let low = lowest_of(self.zone, from);
-        self.blank = false;
-        self.weak = false;
-        copy_rows(from, low, self.zone.size, self.values.as_mut_slice());
+/// Gives a block the values that a lattice has in its zone.
+fn copy_zone(from: &Lattice, to: &mut Block)
+    requires { IsAmongCells to.old.low to.old.size from.now.cells }
+    ensures { IsCopied from.now to.old to.new }
+{
+    let zone = to.zone();
+    let [nx, _, _] = zone.size;
+    if nx == 0 {
+        return;
     }
+    let low = lowest_of(zone, from);
+    copy_rows(from, low, zone.size, to.values_mut());
 }
 
 /// The lowest cell of a zone that lies among a lattice's cells.

@@ -2,13 +2,13 @@
 
 ghost use Rattle.std.specs.Prelude.{◌≡◌, ℕ, ℤ, pos, ◌*◌, length, replicate, IfOk};
 ghost use Rattle.pic_num.specs.Space.{triple};
-ghost use Rattle.pic_grid.specs.Cells.{IsCells, IsWithin, count_of};
+ghost use Rattle.pic_block.specs.Cells.{IsCells, IsWithin, count_of};
 ghost use Rattle.pic_grid.specs.Lattice.{Field, grid_of, IsParts, value_at, with_value};
 ghost use Rattle.pic_grid.specs.Parts.{IsDivided, ArePartsOf, joined};
 
-use crate::block::Block;
 use crate::cells::Cells;
 use crate::parts::{blocks_of, factors_of, layers_of, part_in};
+use pic_block::Block;
 use pic_num::{Axis, NoMemory};
 use std::alloc::Global;
 use std::marker::Model;

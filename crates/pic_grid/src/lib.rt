@@ -1,22 +1,15 @@
 //! The grid: the types that fields, charges and paths live on, and the definitions of the scheme.
 #![tactic(auto)]
 
-mod among;
-mod base;
-mod block;
 mod cells;
 mod copying;
-mod fours;
 mod lattice;
-mod layers;
 mod loops;
 mod name;
 mod neighbours;
 mod nodes;
 mod pair;
 mod parts;
-mod places;
-mod rows;
 mod runs;
 mod setting;
 mod slot;
@@ -25,17 +18,12 @@ mod stop;
 mod track;
 mod weak;
 
-pub use among::is_among;
-pub use base::Base;
-pub use block::{Block, Zone};
 pub use cells::Cells;
-pub use fours::{Found, Four};
 pub use lattice::Lattice;
 pub use loops::{Loop, Loops, Wave, copy_loops};
 pub use name::Name;
 pub use nodes::Nodes;
 pub use pair::Pair;
-pub use places::Place;
 pub use slot::Slot;
 pub use snapshot::Snapshot;
 pub use stop::{Bound, EndMark, Phase, Stop};

@@ -2,8 +2,8 @@
 
 ghost use Rattle.std.specs.Prelude.{◌≡◌, ◌+◌, ◌-◌, ◌%◌, ◌<◌};
 ghost use Rattle.pic_num.specs.Space.{triple};
+ghost use Rattle.pic_block.specs.Cells.{IsWithin};
 ghost use Rattle.pic_grid.specs.Differences.{up, down};
-ghost use Rattle.pic_grid.specs.Cells.{IsWithin};
 
 use crate::cells::Cells;
 use pic_num::Axis;

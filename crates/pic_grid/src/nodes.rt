@@ -2,7 +2,7 @@
 
 ghost use Rattle.std.specs.Prelude.{◌≡◌, ℕ, ℤ, pos, length, replicate, IfOk};
 ghost use Rattle.pic_num.specs.Space.{triple};
-ghost use Rattle.pic_grid.specs.Cells.{IsCells, IsWithin, count_of};
+ghost use Rattle.pic_block.specs.Cells.{IsCells, IsWithin, count_of};
 ghost use Rattle.pic_grid.specs.Lattice.{NodeValues, node_at, with_node};
 
 use crate::cells::Cells;

@@ -3,15 +3,15 @@
 ghost use Rattle.std.specs.Prelude.{◌≡◌, ℕ, ℤ, pos, ◌*◌, ◌<◌, ◌≤◌, replicate, slice_index_or, IfOk};
 ghost use Rattle.pic_num.specs.Limits.{most_cells_of_axis};
 ghost use Rattle.pic_num.specs.Space.{triple, spot};
-ghost use Rattle.pic_grid.specs.Cells.{IsCells, IsSize, IsWithin, count_of, index_of, cell_of};
+ghost use Rattle.pic_block.specs.Cells.{IsCells, IsSize, IsWithin, count_of, index_of, cell_of};
+ghost use Rattle.pic_block.specs.Block.{no_block};
 ghost use Rattle.pic_grid.specs.Lattice.{IsParts};
-ghost use Rattle.pic_grid.specs.Parts.{part_size, part_with, corner_of, no_block, ArePartsOf};
+ghost use Rattle.pic_grid.specs.Parts.{part_size, part_with, corner_of, ArePartsOf};
 ghost use Rattle.pic_grid.specs.Parts.{IsFactor, AreFactors};
 
-use crate::block::{Block, Zone};
 use crate::cells::Cells;
-use crate::places::{count_in, index_in};
 use crate::slot::part_of as part_on;
+use pic_block::{Block, Zone, count_in, index_in};
 use pic_num::NoMemory;
 use std::alloc::Global;
 

@@ -3,10 +3,10 @@
 
 ghost use Rattle.std.specs.Prelude.{◌≡◌, ◌↔◌, ℕ, pos, ◌+◌, ◌<◌, ◌≤◌, length, slice_index_or, IsTrue};
 ghost use Rattle.pic_num.specs.Space.{triple};
-ghost use Rattle.pic_grid.specs.Cells.{IsWithin};
+ghost use Rattle.pic_block.specs.Cells.{IsWithin};
+ghost use Rattle.pic_block.specs.Rows.{part_end};
 ghost use Rattle.pic_grid.specs.Lattice.{value_at};
 ghost use Rattle.pic_grid.specs.Parts.{part_size, layered, IsLayer};
-ghost use Rattle.pic_grid.specs.Rows.{part_end};
 ghost use Rattle.pic_grid.specs.Slot.{IsSlotX, IsSlotY, IsSlotZ};
 
 use crate::lattice::Lattice;
@@ -47,7 +47,7 @@ impl Lattice {
         let part = x.part as usize + y.part as usize + z.part as usize;
         let place = x.place as usize + y.place as usize + z.place as usize;
         let block = &self.blocks[part];
-        let values = block.values.as_slice();
+        let values = block.values();
         let start = axis.number() as usize * count + place;
         &values[start..start + (layers_x - x.place) as usize]
     }
@@ -79,6 +79,6 @@ impl Lattice {
         ensures { IsLayer self.now z result.now }
     {
         let block = &self.blocks[z as usize];
-        block.values.as_slice()
+        block.values()
     }
 }

@@ -1,12 +1,11 @@
 //! Components of a lattice set in the order of places.
 
 ghost use Rattle.std.specs.Prelude.{◌≡◌, ◌+◌, ◌*◌, ◌<◌, ◌≤◌, length};
-ghost use Rattle.pic_grid.specs.Cells.{count_of};
-ghost use Rattle.pic_grid.specs.Lattice.{overwritten, with_places};
+ghost use Rattle.pic_block.specs.Cells.{count_of};
+ghost use Rattle.pic_grid.specs.Lattice.{with_places};
 
-use crate::block::Block;
 use crate::lattice::Lattice;
-use crate::places::Place;
+use pic_block::Place;
 
 impl Lattice {
     /// Changes the components from the one of the number `first` on, in the order of places, to
@@ -21,21 +20,6 @@ impl Lattice {
             return;
         }
         set_each(self, first, values);
-    }
-}
-
-impl Block {
-    /// Changes the components from the one of the number `first` on to `values`, and nothing else.
-    fn set_values(&mut self, first: usize, values: &[i128])
-        requires { first + length values.now ≤ 3 * count_of self.old.size }
-        ensures after { self.new
-            ≡ record self.old { values = overwritten first values.now self.old.values } }
-        ensures shape { length self.old.values ≡ 3 * count_of self.old.size }
-    {
-        self.blank = false;
-        self.weak = false;
-        let end = first + values.len();
-        self.values.as_mut_slice()[first..end].copy_from_slice(values);
     }
 }
 

@@ -77,7 +77,8 @@ impl Lattice {
         let part = x.part as usize + y.part as usize + z.part as usize;
         let place = x.place as usize + y.place as usize + z.place as usize;
         let block = &self.blocks[part];
-        block.values[axis.number() as usize * count + place]
+        let values = block.values();
+        values[axis.number() as usize * count + place]
     }
 }
 

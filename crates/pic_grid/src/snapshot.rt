@@ -1,7 +1,7 @@
 //! One state: fields and particles.
 
 ghost use Rattle.std.specs.Prelude.{◌≡◌, ℕ, ℤ, pos, ◌*◌, [], ◌∷◌, replicate, IfOk};
-ghost use Rattle.pic_grid.specs.Cells.{count_of};
+ghost use Rattle.pic_block.specs.Cells.{count_of};
 
 use crate::cells::Cells;
 use crate::lattice::Lattice;

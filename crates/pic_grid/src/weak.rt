@@ -1,25 +1,9 @@
-//! Blocks of weak values, as force values are where nothing is violent: readers that know it sum them in
-//! 64 bits.
+//! Layers of weak values, where each is a part: readers that know it sum them in 64 bits.
 
-ghost use Rattle.std.specs.Prelude.{◌≡◌, ℕ, pos, ◌<◌, slice_index_or, IsTrue};
+ghost use Rattle.std.specs.Prelude.{◌≡◌, ◌<◌, IsTrue};
 ghost use Rattle.pic_grid.specs.Parts.{layered, IsWeakLayer};
-ghost use Rattle.pic_grid.specs.Weak.{AreWeak};
 
-use crate::block::Block;
 use crate::lattice::Lattice;
-
-/// The greatest size of a weak value.
-const GREATEST_WEAK: i128 = 1 << 26;
-
-impl Block {
-    /// Finds whether its components are weak, as `Lattice::is_weak` tells until one is changed. No
-    /// component is changed.
-    pub fn measure(&mut self)
-        ensures { self.new ≡ self.old }
-    {
-        self.weak = are_weak(self.values.as_slice());
-    }
-}
 
 impl Lattice {
     /// Whether the components in the layer `z`, which is a part of its own, are known to be weak. It may
@@ -32,19 +16,6 @@ impl Lattice {
         ensures { IsTrue result → IsWeakLayer self.now z }
     {
         let block = &self.blocks[z as usize];
-        block.weak
+        block.is_weak()
     }
-}
-
-/// Whether all values are weak. It may be false where they are and one is as great as a weak value can
-/// be.
-// Any other sets a bit from the 27th on, once a weak value's greatest size is added to it.
-fn are_weak(values: &[i128]) -> bool
-    ensures { IsTrue result → AreWeak values.now }
-{
-    let mut bits = 0i128;
-    for i in 0..values.len() {
-        bits |= values[i].wrapping_add(GREATEST_WEAK);
-    }
-    0 <= bits && bits < 2 * GREATEST_WEAK
 }

@@ -6,9 +6,9 @@ use Rattle.pic_num.specs.declared.axis.Axis.TheVariants.{X, Y, Z}
 use Rattle.pic_num.specs.Bytes.{u32_bytes}
 use Rattle.pic_num.specs.Limits.{most_wave, most_drive}
 use Rattle.pic_num.specs.Space.{Triple, triple, axis_number}
+use Rattle.pic_block.specs.Cells.{axis_of}
+use Rattle.pic_block.proofs.CellLaws.{axis_of-number}
 use Rattle.pic_grid.specs.declared.loops.Loop.{Loop}
-use Rattle.pic_grid.specs.Cells.{axis_of}
-use Rattle.pic_grid.proofs.CellLaws.{axis_of-number}
 use Rattle.pic_fields.specs.Number.{is_from_to, is_at_most, i64_bytes}
 use Rattle.pic_fields.proofs.Spells.{Spells}
 use Rattle.pic_fields.proofs.SpellLaws.{FitsEach, spells_bind, spells_mapped, spells_last, spells_so, spells_each, right_4}

@@ -21,8 +21,8 @@ use Rattle.pic_num.specs.Sub.{bits_of}
 use Rattle.pic_num.specs.Versions.{IsSideOf}
 use Rattle.pic_num.proofs.VersionLaws.{within_scheme, side_of_version_1}
 use Rattle.pic_num.specs.declared.axis.Axis.TheVariants.{X}
+use Rattle.pic_block.specs.Cells.{IsCells}
 use Rattle.pic_grid.specs.declared.loops.Loop.{Loop}
-use Rattle.pic_grid.specs.Cells.{IsCells}
 use Rattle.pic_grid.specs.Loops.{IsLoop}
 use Rattle.pic_grid.specs.Species.{HeadView, no_head, IsName, IsKind, is_name_byte}
 use Rattle.pic_fields.specs.Parser.{input}

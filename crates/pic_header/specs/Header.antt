@@ -6,8 +6,8 @@ use Rattle.pic_num.specs.Limits.{allowance_of}
 use Rattle.pic_num.specs.Multiplier.{IsMultiplier}
 use Rattle.pic_num.specs.Space.{Triple}
 use Rattle.pic_num.specs.Versions.{IsVersion, IsGridOf}
+use Rattle.pic_block.specs.Cells.{IsCells}
 use Rattle.pic_grid.specs.declared.loops.Loop.{Loop}
-use Rattle.pic_grid.specs.Cells.{IsCells}
 use Rattle.pic_grid.specs.Loops.{AreLoops}
 use Rattle.pic_grid.specs.Species.{HeadView, AreHeads}
 use Rattle.pic_header.specs.declared.header.HeaderSettings.{HeaderSettings}

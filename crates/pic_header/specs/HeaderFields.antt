@@ -9,8 +9,8 @@ use Rattle.pic_num.specs.Limits.{most_version, allowance_of, fewest_cells_of_axi
 use Rattle.pic_num.specs.Limits.{most_loops, most_wave, most_drive}
 use Rattle.pic_num.specs.Multiplier.{Multiplier}
 use Rattle.pic_num.specs.Space.{Triple}
+use Rattle.pic_block.specs.Cells.{axis_of}
 use Rattle.pic_grid.specs.declared.loops.Loop.{Loop}
-use Rattle.pic_grid.specs.Cells.{axis_of}
 use Rattle.pic_grid.specs.Species.{HeadView, no_head, IsName, IsKind, is_name_byte}
 use Rattle.pic_fields.specs.Causes.{cause_number}
 use Rattle.pic_fields.specs.declared.cause.Cause.TheVariants.{WrongLetter, OutOfLimits}

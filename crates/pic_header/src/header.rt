@@ -1,7 +1,7 @@
 //! The header of a dump.
 
 ghost use Rattle.std.specs.Prelude.{◌≡◌, ◌*◌, ◌≤◌, All, length};
-ghost use Rattle.pic_grid.specs.Cells.{IsCells};
+ghost use Rattle.pic_block.specs.Cells.{IsCells};
 ghost use Rattle.pic_header.specs.Header.{HeaderView, header_with, with_steps, upgraded, HasLimits, HasMultipliers, AreMultipliers, IsHeader};
 ghost use Rattle.pic_num.specs.Limits.{most_loops, most_wave};
 ghost use Rattle.pic_header.specs.Limits.{most_steps};

@@ -4,7 +4,7 @@ ghost use Rattle.std.specs.Prelude.{◌≡◌, ℤ, ◌+◌, ◌*◌, ◌<◌, �
 ghost use Rattle.pic_num.specs.Limits.{most_loops, most_wave, most_drive};
 ghost use Rattle.pic_num.specs.Sizes.{IsAtMost};
 ghost use Rattle.pic_num.specs.Space.{triple};
-ghost use Rattle.pic_grid.specs.Cells.{IsWithin};
+ghost use Rattle.pic_block.specs.Cells.{IsWithin};
 ghost use Rattle.pic_grid.specs.Loops.{IsLoop};
 ghost use Rattle.pic_fields.specs.Reads.{Reads, as_it_is};
 ghost use Rattle.pic_fields.specs.declared.read_stop.ReadStop.TheVariants.{ReadFault};

@@ -93,7 +93,7 @@ pub fn slow_weight(side: u32, cells: [u32; 3], point: [u32; 3], node: [u32; 3]) 
 }
 
 // the value of a component at a cell
-#[tactic(auto, unfolding(pic_grid::specs::Gather::laid_out, pic_grid::specs::Cells::index_of))]
+#[tactic(auto, unfolding(pic_grid::specs::Gather::laid_out, pic_block::specs::Cells::index_of))]
 fn listed_value(cells: [u32; 3], values: &[i128], cell: [u32; 3]) -> i128
     requires x_most { slice_index cells 0 ≤ most_cells_of_axis }
     requires y_most { slice_index cells 1 ≤ most_cells_of_axis }

@@ -13,7 +13,7 @@ use Rattle.pic_num.specs.Sizes.{IsAtMost}
 use Rattle.pic_num.specs.Space.{triple, spot, along}
 use Rattle.pic_num.proofs.RoundingLaws.{rounded-size}
 use Rattle.pic_num.proofs.SizeLaws.{times_at_most}
-use Rattle.pic_grid.specs.Cells.{Grid}
+use Rattle.pic_block.specs.Cells.{Grid}
 use Rattle.pic_grid.specs.Hat.{IsInBox}
 use Rattle.pic_deck.specs.Species.{fastest, fastest_drift, widest_spread}
 use Rattle.pic_load.specs.Drawing.{scaled_word, drawn_place, sum_of_words, mean_of_twelve, deviate, drawn_speed, drawn_velocity, IsSpread}

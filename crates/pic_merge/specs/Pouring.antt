@@ -1,8 +1,8 @@
 -- How a tile changes while a parcel is merged into that of no step.
 use Rattle.std.specs.Prelude.{◌≡◌, ℕ, List, ◌++◌, IsSome}
 use Rattle.pic_num.specs.declared.motion.Particle.{Particle}
-use Rattle.pic_grid.specs.Block.{BlockValues, IsShaped}
-use Rattle.pic_grid.specs.BlockLayers.{AddsLayers}
+use Rattle.pic_block.specs.Block.{BlockValues, IsShaped}
+use Rattle.pic_block.specs.BlockLayers.{AddsLayers}
 use Rattle.pic_tile.specs.Same.{Same}
 use Rattle.pic_tile.specs.Directions.{here}
 use Rattle.pic_tile.specs.Layers.{layers_begin}

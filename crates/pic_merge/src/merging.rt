@@ -1,11 +1,11 @@
 //! A parcel merged into the tile that it goes to, and a tile that has all of them.
 
 ghost use Rattle.std.specs.Prelude.{◌≡◌, ◌^◌, ◌*◌, ◌++◌, ◌⊎◌, ℕ, pos, ◌<◌, Bool, List, [], replicate, Some, None, IsSome, IfOk, IsTrue};
-ghost use Rattle.pic_grid.specs.BlockLayers.{most_of_layer};
 ghost use Rattle.pic_num.specs.declared.motion.Particle.{Particle};
 ghost use Rattle.pic_num.specs.Space.{triple, spot};
-ghost use Rattle.pic_grid.specs.Block.{AllAtMost, IsShaped};
-ghost use Rattle.pic_grid.specs.Cells.{count_of};
+ghost use Rattle.pic_block.specs.BlockLayers.{most_of_layer};
+ghost use Rattle.pic_block.specs.Block.{AllAtMost, IsShaped};
+ghost use Rattle.pic_block.specs.Cells.{count_of};
 ghost use Rattle.pic_grid.specs.PushPhase.{Surroundings};
 ghost use Rattle.pic_tile.specs.Same.{Same};
 ghost use Rattle.pic_merge.specs.Pouring.{Poured};
@@ -18,8 +18,8 @@ ghost use Rattle.pic_tile.specs.Tile.{parcel_at, flux_at};
 ghost use Rattle.pic_tile.specs.Tiling.{Tiling};
 ghost use Rattle.pic_tile.specs.Zones.{IsTileZone};
 
+use pic_block::{Block, Zone};
 use pic_chain::Chain;
-use pic_grid::{Block, Zone};
 use pic_tile::{Dir, Parcel, ParcelBox, Tile, layers_begin, layers_zone};
 
 /// Merges a parcel into the tile that it goes to. That of no step is the first, and is put in its

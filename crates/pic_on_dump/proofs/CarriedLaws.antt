@@ -10,11 +10,11 @@ use Rattle.std.proofs.lemmas.List.Elements.{All-map, All-from_get_or}
 use Rattle.pic_num.specs.Multiplier.{Multiplier}
 use Rattle.pic_num.specs.Space.{spot}
 use Rattle.pic_num.specs.Velocity.{IsKeptVelocity}
-use Rattle.pic_grid.specs.Cells.{place_of}
+use Rattle.pic_block.specs.Cells.{place_of}
+use Rattle.pic_block.proofs.CellLaws.{place_of_below}
 use Rattle.pic_grid.specs.Lattice.{Field}
 use Rattle.pic_grid.specs.PushPhase.{CanShare}
 use Rattle.pic_grid.specs.Species.{HeadView, IsKind, no_head}
-use Rattle.pic_grid.proofs.CellLaws.{place_of_below}
 use Rattle.pic_header.specs.Header.{HeaderView, IsHeader}
 use Rattle.pic_record.specs.FrameFields.{FrameView, field_with}
 use Rattle.pic_record.specs.Layout.{LayoutView, layout_of, species_of}

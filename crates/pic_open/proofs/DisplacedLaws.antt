@@ -13,10 +13,10 @@ use Rattle.pic_num.specs.Sizes.{IsAtMost}
 use Rattle.pic_num.specs.Space.{Triple}
 use Rattle.pic_num.proofs.FirstLaws.{first_of_none}
 use Rattle.pic_num.proofs.VersionLaws.{within_scheme, side_least, side_most}
-use Rattle.pic_grid.specs.Cells.{IsWithin, count_of, place_of}
+use Rattle.pic_block.specs.Cells.{IsWithin, count_of, place_of}
+use Rattle.pic_block.proofs.CellLaws.{place_of_below}
 use Rattle.pic_grid.specs.Lattice.{Field, field_of}
 use Rattle.pic_grid.specs.Parts.{one_part}
-use Rattle.pic_grid.proofs.CellLaws.{place_of_below}
 use Rattle.pic_grid.proofs.LatticeLaws.{value_at-field_of}
 use Rattle.pic_field.specs.FieldPhases.{IsBounded}
 use Rattle.pic_walk.specs.Path.{key_at}

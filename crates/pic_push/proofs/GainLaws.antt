@@ -7,8 +7,8 @@ use Rattle.std.proofs.lemmas.List.{get_or_past, get_or-set_same, get_or-set_othe
 use Rattle.pic_num.specs.declared.axis.Axis.{Axis}
 use Rattle.pic_num.specs.Space.{Spot}
 use Rattle.pic_num.proofs.ProductLaws.{plus_zero}
-use Rattle.pic_grid.specs.Block.{BlockValues, IsShaped, edge_at}
-use Rattle.pic_grid.proofs.BlockLaws.{shaped_twice}
+use Rattle.pic_block.specs.Block.{BlockValues, IsShaped, edge_at}
+use Rattle.pic_block.proofs.BlockLaws.{shaped_twice}
 use Rattle.pic_flux.specs.Adds.{Adds}
 use Rattle.pic_flux.specs.Corners.{both}
 use Rattle.pic_flux.proofs.AddsLaws.{adds_same, adds_twice}

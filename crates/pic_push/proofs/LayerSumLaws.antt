@@ -4,14 +4,14 @@ use Rattle.std.proofs.Math.IntN.{ℤ, pos, ◌+ℤ◌, ◌-ℤ◌}
 use Rattle.std.specs.Prelude.{◌≤ℤ◌, unsigned_abs}
 use Rattle.std.proofs.lemmas.Int.{ints}
 use Rattle.std.proofs.lemmas.List.Elements.{All-weaker}
+use Rattle.pic_block.specs.Block.{outer_of}
+use Rattle.pic_block.specs.Cells.{cell_of}
 use Rattle.pic_grid.proofs.PartLaws.{low_end, high_end}
 use Rattle.pic_num.specs.declared.axis.Axis.{Axis}
 use Rattle.pic_num.specs.declared.axis.Axis.TheVariants.{X, Y, Z}
 use Rattle.pic_num.specs.declared.motion.Particle.{Particle}
 use Rattle.pic_num.specs.Push.{Shift, Halting, plus}
 use Rattle.pic_num.specs.Space.{Triple, Spot, triple, unwrapped, along, AreAtMost}
-use Rattle.pic_grid.specs.Block.{outer_of}
-use Rattle.pic_grid.specs.Cells.{cell_of}
 use Rattle.pic_grid.specs.Current.{wrapped, flux_after, current}
 use Rattle.pic_grid.specs.Hat.{IsInBox, HasTwo}
 use Rattle.pic_grid.specs.Path.{floor_of, floor_cell}

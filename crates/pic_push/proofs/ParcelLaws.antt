@@ -12,13 +12,13 @@ use Rattle.pic_num.specs.declared.motion.Particle.{Particle}
 use Rattle.pic_num.specs.Limits.{most_side, most_particles}
 use Rattle.pic_num.specs.Sizes.{IsAtMost}
 use Rattle.pic_num.specs.Space.{Triple, Spot}
+use Rattle.pic_block.proofs.BlockLaws.{in_zone_shaped}
+use Rattle.pic_block.proofs.ShapeLaws.{shaped_back}
 use Rattle.pic_grid.specs.declared.stop.Stop.{Stop}
 use Rattle.pic_grid.specs.PushPhase.{Surroundings, push_of, halt_of}
 use Rattle.pic_grid.specs.Species.{IsKind}
 use Rattle.pic_grid.specs.Sums.{sum_over}
 use Rattle.pic_grid.specs.Traces.{trace_of, traces, most_flux}
-use Rattle.pic_grid.proofs.BlockLaws.{in_zone_shaped}
-use Rattle.pic_grid.proofs.ShapeLaws.{shaped_back}
 use Rattle.pic_grid.proofs.OverLaws.{sum_over-append, sum_over-one}
 use Rattle.pic_tile.specs.Same.{Same}
 use Rattle.pic_tile.specs.StopOf.{IsStopOf, lesser}

@@ -11,8 +11,9 @@ use Rattle.pic_num.specs.declared.motion.Particle.{Particle}
 use Rattle.pic_num.specs.Limits.{most_side, most_particles}
 use Rattle.pic_num.specs.Push.{Shift, Halting}
 use Rattle.pic_num.specs.Space.{Triple, Spot, triple, along, unwrapped}
-use Rattle.pic_grid.specs.Block.{outer_of}
-use Rattle.pic_grid.specs.Cells.{cell_of}
+use Rattle.pic_block.specs.Block.{outer_of}
+use Rattle.pic_block.specs.Cells.{cell_of}
+use Rattle.pic_block.proofs.CellLaws.{cell_of_within}
 use Rattle.pic_grid.specs.Current.{wrapped}
 use Rattle.pic_grid.specs.Hat.{HasTwo, IsInBox}
 use Rattle.pic_grid.specs.Path.{path}
@@ -20,7 +21,6 @@ use Rattle.pic_grid.specs.PushPhase.{Surroundings, kind_of, push_of}
 use Rattle.pic_grid.specs.Species.{IsKind}
 use Rattle.pic_grid.specs.Sums.{sum_below, sum_over}
 use Rattle.pic_grid.specs.Traces.{trace_of, traces}
-use Rattle.pic_grid.proofs.CellLaws.{cell_of_within}
 use Rattle.pic_grid.proofs.SpeciesLaws.{kind_of_most}
 use Rattle.pic_split.proofs.ImageLaws.{wrapped-zero}
 use Rattle.pic_split.proofs.ImageSizeLaws.{path_images}

@@ -5,7 +5,7 @@ use Rattle.std.specs.Prelude.{◌≤ℤ◌, ◌<ℤ◌, unsigned_abs, nat_lt}
 use Rattle.std.proofs.lemmas.Bool.Decides.{nat_tests}
 use Rattle.std.proofs.lemmas.Int.{ints}
 use Rattle.pic_num.specs.Space.{Triple, Spot}
-use Rattle.pic_grid.specs.Block.{InZone}
+use Rattle.pic_block.specs.Block.{InZone}
 use Rattle.pic_tile.specs.Directions.{here}
 use Rattle.pic_tile.specs.Tiling.{Tiling}
 use Rattle.pic_tile.specs.Layers.{lowest_cell}

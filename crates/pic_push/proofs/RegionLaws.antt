@@ -10,7 +10,7 @@ use mir.Syntax.{w32}
 use mir.Val.{SFits, to_z, of_z}
 use Rattle.pic_num.specs.Space.{Triple, Spot}
 use Rattle.pic_flux.specs.CellFlux.{AreLayers}
-use Rattle.pic_grid.specs.Among.{IsOneOf}
+use Rattle.pic_block.specs.Among.{IsOneOf}
 use Rattle.pic_flux.specs.Corners.{HasEdges}
 use Rattle.pic_tile.specs.Directions.{directions, here}
 use Rattle.pic_tile.specs.Layers.{layer_count, layer_low, layers_from, layers_size}

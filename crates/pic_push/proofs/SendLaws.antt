@@ -11,10 +11,10 @@ use Rattle.pic_num.specs.Sizes.{IsAtMost}
 use Rattle.pic_num.specs.Space.{Triple, Spot, triple, spot, unwrapped, AreAtMost}
 use Rattle.pic_num.proofs.ProductLaws.{plus_zero}
 use Rattle.pic_num.proofs.SizeLaws.{times_at_most}
+use Rattle.pic_block.specs.Block.{edge_at}
+use Rattle.pic_block.specs.Cells.{IsCells}
 use Rattle.pic_grid.specs.declared.stop.Stop.{Stop}
 use Rattle.pic_grid.specs.declared.stop.Stop.TheVariants.{Push}
-use Rattle.pic_grid.specs.Block.{edge_at}
-use Rattle.pic_grid.specs.Cells.{IsCells}
 use Rattle.pic_grid.specs.Flux.{path_flux}
 use Rattle.pic_grid.specs.Hat.{IsInBox}
 use Rattle.pic_grid.specs.Path.{floor_cell, path}

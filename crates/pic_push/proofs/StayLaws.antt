@@ -11,11 +11,11 @@ use Rattle.pic_num.specs.Limits.{most_side, most_cells_of_axis}
 use Rattle.pic_num.specs.Push.{Shift, plus}
 use Rattle.pic_num.specs.Rounding.{residue}
 use Rattle.pic_num.specs.Space.{Triple, Spot, triple, unwrapped}
-use Rattle.pic_grid.proofs.CellLaws.{cell_of_within}
+use Rattle.pic_block.proofs.CellLaws.{cell_of_within}
+use Rattle.pic_block.specs.Among.{IsOneOf}
+use Rattle.pic_block.specs.Block.{InZone}
+use Rattle.pic_block.specs.Cells.{count_of, cell_of}
 use Rattle.pic_grid.proofs.PathLaws.{floor_low, floor_high}
-use Rattle.pic_grid.specs.Among.{IsOneOf}
-use Rattle.pic_grid.specs.Block.{InZone}
-use Rattle.pic_grid.specs.Cells.{count_of, cell_of}
 use Rattle.pic_grid.specs.Hat.{IsInBox, HasTwo}
 use Rattle.pic_grid.specs.Path.{floor_of, floor_cell}
 use Rattle.pic_grid.specs.PushPhase.{Surroundings}

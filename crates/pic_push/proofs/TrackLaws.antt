@@ -3,14 +3,14 @@ use Rattle.std.proofs.Common.{◌≡◌, ℕ, ◌+◌, ◌^◌, ◌<◌, List, l
 use Rattle.std.proofs.Math.IntN.{ℤ}
 use Rattle.pic_num.specs.declared.axis.Axis.{Axis}
 use Rattle.pic_num.specs.Space.{Triple, Spot}
-use Rattle.pic_grid.specs.Block.{BlockValues, AllAtMost}
+use Rattle.pic_block.specs.Block.{BlockValues, AllAtMost}
+use Rattle.pic_block.proofs.BlockLaws.{all_at_most_more}
+use Rattle.pic_block.proofs.ShapeLaws.{shaped_same}
 use Rattle.pic_grid.specs.Flux.{flux, path_flux}
 use Rattle.pic_grid.specs.Segment.{Piece}
 use Rattle.pic_grid.specs.Sums.{sum_over}
 use Rattle.pic_grid.specs.Traces.{IsFluxAtMost, most_flux}
 use Rattle.pic_grid.proofs.OverLaws.{sum_over_more}
-use Rattle.pic_grid.proofs.BlockLaws.{all_at_most_more}
-use Rattle.pic_grid.proofs.ShapeLaws.{shaped_same}
 use Rattle.pic_flux.specs.Corners.{both}
 use Rattle.pic_flux.proofs.AddsLaws.{adds_none, adds_grow}
 use Rattle.pic_tile.specs.declared.parcel.Parcel.{Parcel}

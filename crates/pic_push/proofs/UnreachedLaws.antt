@@ -7,7 +7,7 @@ use Rattle.std.proofs.lemmas.Int.{ints}
 use Rattle.pic_num.specs.declared.axis.Axis.{Axis}
 use Rattle.pic_num.specs.declared.axis.Axis.TheVariants.{X, Y, Z}
 use Rattle.pic_num.specs.Space.{Triple, Spot, along}
-use Rattle.pic_grid.specs.Block.{InZone}
+use Rattle.pic_block.specs.Block.{InZone}
 use Rattle.pic_grid.specs.Flux.{flux}
 use Rattle.pic_grid.specs.Segment.{Piece, IsInCell}
 use Rattle.pic_grid.proofs.ApartLaws.{IsApart, flux_apart}

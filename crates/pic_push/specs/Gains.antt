@@ -2,7 +2,7 @@
 use Rattle.std.specs.Prelude.{◌≡◌, ℕ, ℤ, pos, ◌<◌, Option, Some, None}
 use Rattle.pic_num.specs.declared.axis.Axis.{Axis}
 use Rattle.pic_num.specs.Space.{Spot}
-use Rattle.pic_grid.specs.Block.{BlockValues, IsShaped, InZone}
+use Rattle.pic_block.specs.Block.{BlockValues, IsShaped, InZone}
 use Rattle.pic_flux.specs.Adds.{Adds}
 use Rattle.pic_tile.specs.declared.parcel.Parcel.{Parcel}
 use Rattle.pic_tile.specs.Directions.{directions}

@@ -5,7 +5,7 @@ use Rattle.std.specs.Prelude.{◌≡◌, ℕ, zero, suc, ℤ, pos, ◌<◌, ◌�
 use Rattle.pic_num.specs.declared.axis.Axis.{Axis}
 use Rattle.pic_num.specs.declared.axis.Axis.TheVariants.{X, Y, Z}
 use Rattle.pic_num.specs.Space.{Triple, Spot, next_axis}
-use Rattle.pic_grid.specs.Block.{BlockValues, AllAtMost}
+use Rattle.pic_block.specs.Block.{BlockValues, AllAtMost}
 use Rattle.pic_flux.specs.declared.cell_flux.CellFlux.{CellFlux}
 use Rattle.pic_flux.specs.declared.edges.Layers.{Layers}
 use Rattle.pic_flux.specs.CellFlux.{edge_flux, flux_cell, IsModest, AreLayers, most_before_flux}

@@ -3,7 +3,7 @@ use Rattle.std.specs.Prelude.{◌≡◌, ℕ, ℤ, ◌<◌, ◌+◌, ◌^◌, �
 use Rattle.pic_num.specs.declared.axis.Axis.{Axis}
 use Rattle.pic_num.specs.declared.motion.Particle.{Particle}
 use Rattle.pic_num.specs.Space.{Triple, Spot}
-use Rattle.pic_grid.specs.Block.{IsShaped, AllAtMost}
+use Rattle.pic_block.specs.Block.{IsShaped, AllAtMost}
 use Rattle.pic_grid.specs.PushPhase.{Surroundings, push_of, halt_of}
 use Rattle.pic_grid.specs.Traces.{trace_of, most_flux}
 use Rattle.pic_flux.specs.Adds.{Adds}

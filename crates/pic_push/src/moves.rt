@@ -10,8 +10,9 @@ ghost use Rattle.pic_grid.specs.PushPhase.{moved};
 ghost use Rattle.pic_boris.specs.Pushes.{shift_of};
 ghost use Rattle.pic_push.specs.Paths.{StaysInBox};
 
+use pic_block::is_among;
 use pic_boris::Moved;
-use pic_grid::{Cells, is_among};
+use pic_grid::Cells;
 use pic_num::{Particle, Sub, wrap};
 
 /// A coordinate that lies in the box.

@@ -21,9 +21,10 @@ use crate::lone_push::feel_alone;
 use crate::reach::{is_here, way_to};
 use crate::sending::{path_of, send_flux};
 use crate::stop_order::lesser;
+use pic_block::Zone;
 use pic_boris::{Halt, Moved};
 use pic_chain::Node;
-use pic_grid::{Stop, Zone};
+use pic_grid::Stop;
 use pic_num::Particle;
 use pic_tile::{Frame, Parcel, Tile};
 

@@ -4,13 +4,13 @@
 ghost use Rattle.std.specs.Prelude.{◌≡◌, ℕ, pos, ◌+◌, ◌<◌, ◌≤◌, ◌≤ℤ◌, ◌<ℤ◌, ◌+ℤ◌, unsigned_abs};
 ghost use Rattle.std.specs.Prelude.{false, IsTrue, IfSome};
 ghost use Rattle.pic_num.specs.Space.{triple, spot};
-ghost use Rattle.pic_grid.specs.Block.{InZone};
+ghost use Rattle.pic_block.specs.Block.{InZone};
 ghost use Rattle.pic_tile.specs.Directions.{directions};
 ghost use Rattle.pic_tile.specs.Leaving.{step_to};
 ghost use Rattle.pic_push.specs.Reach.{reaches, IsReach, IsReachOf, AreStepsOf, direction_from};
 ghost use Rattle.pic_push.specs.Reach.{direction_number, AreSteps, first_direction};
 
-use pic_grid::{Zone, is_among};
+use pic_block::{Zone, is_among};
 use pic_tile::Dir;
 
 /// Some steps of an axis, one after another: 0 is a step down, 1 none, 2 a step up.

@@ -4,8 +4,8 @@ ghost use Rattle.std.specs.Prelude.{◌≡◌, ◌⊎◌, pos, ◌≤◌, ◌≤
 ghost use Rattle.pic_num.specs.Space.{triple, spot};
 ghost use Rattle.pic_push.specs.Region.{IsInner, IsLevel, LiesIn, layers_at};
 
+use pic_block::{Zone, is_among};
 use pic_flux::Layers;
-use pic_grid::{Zone, is_among};
 use pic_tile::Dir;
 
 /// The number of the direction without a step.

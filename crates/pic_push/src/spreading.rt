@@ -2,7 +2,7 @@
 
 ghost use Rattle.std.specs.Prelude.{◌≡◌, ℕ, ◌<◌, false};
 ghost use Rattle.pic_num.specs.Space.{spot};
-ghost use Rattle.pic_grid.specs.Block.{IsShaped, AllAtMost};
+ghost use Rattle.pic_block.specs.Block.{IsShaped, AllAtMost};
 ghost use Rattle.pic_flux.specs.Adds.{Adds};
 ghost use Rattle.pic_flux.specs.CellFlux.{edge_flux, flux_cell, IsModest, most_before_flux};
 ghost use Rattle.pic_tile.specs.declared.parcel.Parcel.{Parcel};
@@ -14,8 +14,8 @@ ghost use Rattle.pic_push.specs.Reach.{IsReach, reaches};
 
 use crate::reach::Reach;
 use crate::region::{HERE, layers_at};
+use pic_block::Block;
 use pic_flux::CellFlux;
-use pic_grid::Block;
 use pic_tile::{Dir, Parcel, Tile};
 
 /// Adds the flux of a piece to a tile's parcel of a direction, if it is there.

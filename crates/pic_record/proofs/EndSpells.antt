@@ -10,8 +10,8 @@ use Rattle.pic_num.specs.declared.axis.Axis.{Axis}
 use Rattle.pic_num.specs.declared.axis.Axis.TheVariants.{X, Y, Z}
 use Rattle.pic_num.specs.Bytes.{u32_bytes, i128_bytes}
 use Rattle.pic_num.specs.Space.{Triple, triple, axis_number}
-use Rattle.pic_grid.specs.Cells.{axis_of}
-use Rattle.pic_grid.proofs.CellLaws.{axis_of-number}
+use Rattle.pic_block.specs.Cells.{axis_of}
+use Rattle.pic_block.proofs.CellLaws.{axis_of-number}
 use Rattle.pic_grid.specs.declared.stop.Phase.{Phase}
 use Rattle.pic_grid.specs.declared.stop.Phase.TheVariants.{Half1, Half2, Electric}
 use Rattle.pic_grid.specs.declared.stop.Bound.{Bound}

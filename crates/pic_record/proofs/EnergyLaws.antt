@@ -16,7 +16,7 @@ use Rattle.pic_num.specs.Sizes.{IsAtMost}
 use Rattle.pic_num.specs.Space.{Triple, spot}
 use Rattle.pic_num.specs.Velocity.{too_fast, IsKeptVelocity}
 use Rattle.pic_num.proofs.SizeLaws.{times_at_most}
-use Rattle.pic_grid.specs.Cells.{IsCells, count_of}
+use Rattle.pic_block.specs.Cells.{IsCells, count_of}
 use Rattle.pic_grid.specs.PushPhase.{kind_of, no_kind}
 use Rattle.pic_energy.specs.Energies.{square_of, speed_square, kinetic_of, kinetic_sum, square_sum, HasMass}
 use Rattle.pic_record.specs.Readable.{IsReadableField}

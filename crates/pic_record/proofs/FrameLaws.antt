@@ -8,7 +8,7 @@ use Rattle.pic_num.specs.declared.motion.Kind.{Kind}
 use Rattle.pic_num.specs.declared.motion.Particle.{Particle}
 use Rattle.pic_num.specs.declared.mult.Scales.{Scales}
 use Rattle.pic_num.specs.Multiplier.{Multiplier}
-use Rattle.pic_grid.specs.Cells.{count_of}
+use Rattle.pic_block.specs.Cells.{count_of}
 use Rattle.pic_grid.specs.Lattice.{Field}
 use Rattle.pic_energy.specs.Energies.{IsBounded, energies_of}
 use Rattle.pic_energy.proofs.Bounds.{bounded_of_values}

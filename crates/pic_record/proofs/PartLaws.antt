@@ -5,8 +5,8 @@ use Rattle.std.proofs.lemmas.List.{take_more_set, take-set-le, take-take, length
 use Rattle.std.proofs.lemmas.Bool.{cases_lt}
 use Rattle.std.proofs.Math.Seq.{take-append_seam}
 use Rattle.std.specs.Prelude.{nat_eq}
-use Rattle.pic_grid.specs.Lattice.{overwritten}
-use Rattle.pic_grid.proofs.WrittenLaws.{written_before, written_part}
+use Rattle.pic_block.specs.Block.{overwritten}
+use Rattle.pic_block.proofs.WrittenLaws.{written_before, written_part}
 use Rattle.pic_record.specs.Firsts.{FirstAre}
 use Rattle.pic_num.specs.declared.motion.Particle.{Particle}
 use Rattle.pic_num.specs.Multiplier.{Multiplier}

@@ -10,7 +10,7 @@ use Rattle.pic_num.specs.declared.axis.Axis.{Axis}
 use Rattle.pic_num.specs.declared.motion.What.{What}
 use Rattle.pic_num.specs.Bytes.{u32_bytes, i128_bytes}
 use Rattle.pic_num.specs.Space.{triple, axis_number}
-use Rattle.pic_grid.specs.Cells.{IsCells}
+use Rattle.pic_block.specs.Cells.{IsCells}
 use Rattle.pic_grid.specs.declared.stop.Phase.{Phase}
 use Rattle.pic_grid.specs.declared.stop.Bound.{Bound}
 use Rattle.pic_grid.specs.declared.stop.Stop.{Stop}

@@ -5,7 +5,7 @@ use Rattle.pic_num.specs.declared.mult.Scales.{Scales}
 use Rattle.pic_num.specs.Limits.{least_side, most_side, most_filter, most_species, most_particles, most_charge}
 use Rattle.pic_num.specs.Sizes.{IsAtMost}
 use Rattle.pic_num.specs.Space.{Triple}
-use Rattle.pic_grid.specs.Cells.{Grid, IsCells}
+use Rattle.pic_block.specs.Cells.{Grid, IsCells}
 use Rattle.pic_energy.specs.Energies.{HasMass}
 use Rattle.pic_header.specs.Header.{HeaderView}
 use Rattle.pic_header.specs.Limits.{most_steps}

@@ -9,12 +9,12 @@ use Rattle.pic_num.specs.declared.motion.What.{What}
 use Rattle.pic_num.specs.Multiplier.{Multiplier}
 use Rattle.pic_num.specs.Space.{Triple, triple, spot}
 use Rattle.pic_num.specs.Velocity.{IsKeptVelocity}
+use Rattle.pic_block.specs.Cells.{IsWithin, count_of}
 use Rattle.pic_grid.specs.declared.stop.Bound.{Bound}
 use Rattle.pic_grid.specs.declared.stop.Stop.{Stop}
 use Rattle.pic_grid.specs.declared.stop.Stop.TheVariants.{Field, Push}
 use Rattle.pic_grid.specs.declared.stop.EndMark.{EndMark}
 use Rattle.pic_grid.specs.declared.stop.EndMark.TheVariants.{Done, Stopped}
-use Rattle.pic_grid.specs.Cells.{IsWithin, count_of}
 use Rattle.pic_grid.specs.Hat.{IsInBox}
 use Rattle.pic_energy.specs.Energies.{energies_of}
 use Rattle.pic_fields.specs.Parser.{Input, input}

@@ -1,7 +1,7 @@
 //! The values of a field of a dump, read in pieces.
 
 ghost use Rattle.std.specs.Prelude.{◌≡◌, ◌+◌, ◌*◌, ◌<◌, ◌≤◌, ◌^◌, length, IfOk, OnOk};
-ghost use Rattle.pic_grid.specs.Cells.{count_of};
+ghost use Rattle.pic_block.specs.Cells.{count_of};
 ghost use Rattle.pic_fields.specs.Parser.{checked, each};
 ghost use Rattle.pic_fields.specs.Number.{i128_at};
 ghost use Rattle.pic_fields.specs.Reads.{Reads, always, as_it_is};

@@ -11,8 +11,9 @@ ghost use Rattle.pic_record.specs.RecordText.{particles_bytes, energies_bytes, s
 ghost use Rattle.pic_record.specs.Queues.{Queues};
 
 use crate::frame_buffer::{FrameBuffer, make_room};
+use pic_block::Place;
 use pic_energy::Energies;
-use pic_grid::{Lattice, Place, Snapshot};
+use pic_grid::{Lattice, Snapshot};
 use pic_io::{Failed, Sink};
 use pic_num::Particle;
 

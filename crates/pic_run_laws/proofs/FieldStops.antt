@@ -14,11 +14,11 @@ use Rattle.pic_num.specs.Multiplier.{Multiplier, IsMultiplier}
 use Rattle.pic_num.specs.Rounding.{scaled}
 use Rattle.pic_num.specs.Sizes.{IsAtMost}
 use Rattle.pic_num.specs.Space.{Triple, next_axis}
+use Rattle.pic_block.specs.Cells.{IsWithin}
 use Rattle.pic_grid.specs.declared.stop.Bound.TheVariants.{Value, Force}
 use Rattle.pic_grid.specs.declared.stop.Phase.{Phase}
 use Rattle.pic_grid.specs.declared.stop.Stop.{Stop}
 use Rattle.pic_grid.specs.declared.stop.Stop.TheVariants.{Field as FieldStop}
-use Rattle.pic_grid.specs.Cells.{IsWithin}
 use Rattle.pic_grid.specs.Loops.{AreLoops}
 use Rattle.pic_grid.specs.Differences.{up, down, curl_b}
 use Rattle.pic_grid.specs.Lattice.{value_at}

@@ -9,10 +9,10 @@ use Rattle.pic_num.specs.declared.mult.Scales.{Scales}
 use Rattle.pic_num.specs.Multiplier.{Multiplier}
 use Rattle.pic_num.specs.Space.{Triple, triple, spot}
 use Rattle.pic_num.specs.Velocity.{IsKeptVelocity}
-use Rattle.pic_grid.specs.Cells.{count_of, axis_of, cell_of}
+use Rattle.pic_block.specs.Cells.{count_of, axis_of, cell_of}
+use Rattle.pic_block.proofs.CellLaws.{place_of-number, place_within}
 use Rattle.pic_grid.specs.Hat.{IsInBox}
 use Rattle.pic_grid.specs.Lattice.{Field}
-use Rattle.pic_grid.proofs.CellLaws.{place_of-number, place_within}
 use Rattle.pic_charge.specs.Gauss.{MeetsGauss}
 use Rattle.pic_energy.specs.Energies.{energies_of}
 use Rattle.pic_record.specs.RecordText.{frame_bytes}

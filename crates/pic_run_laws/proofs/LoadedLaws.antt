@@ -15,7 +15,7 @@ use Rattle.pic_num.specs.Sizes.{IsAtMost}
 use Rattle.pic_num.specs.Space.{triple, spot, along}
 use Rattle.pic_num.proofs.RoundingLaws.{residue-is}
 use Rattle.pic_num.proofs.VersionLaws.{side_least}
-use Rattle.pic_grid.specs.Cells.{Grid}
+use Rattle.pic_block.specs.Cells.{Grid}
 use Rattle.pic_grid.specs.Hat.{IsInBox}
 use Rattle.pic_deck.specs.declared.species.Fill.{Fill}
 use Rattle.pic_deck.specs.declared.species.Fill.TheVariants.{Points, Lattice, Random, Pair, Displace}

@@ -13,7 +13,7 @@ use Rattle.pic_num.specs.Sizes.{IsAtMost}
 use Rattle.pic_num.specs.Space.{Triple, Spot, AreAtMost}
 use Rattle.pic_num.proofs.RoundingLaws.{rounded-size, rounded-no_larger}
 use Rattle.pic_num.proofs.SizeLaws.{codes, code_at_most, times_at_most}
-use Rattle.pic_grid.specs.Cells.{IsCells, IsWithin}
+use Rattle.pic_block.specs.Cells.{IsCells, IsWithin}
 use Rattle.pic_grid.specs.Gather.{weighted, shifted_weight, gathered, gathered_e, gathered_b, offset_e, offset_b}
 use Rattle.pic_grid.specs.Sums.{sum_below, sum_cells}
 use Rattle.pic_grid.proofs.HatLaws.{hat_most}

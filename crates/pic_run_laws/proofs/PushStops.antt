@@ -22,9 +22,9 @@ use Rattle.pic_num.specs.Space.{Triple, Spot, triple, spot, along, AreAtMost}
 use Rattle.pic_num.specs.Velocity.{IsKeptVelocity}
 pub use Rattle.pic_num.proofs.FirstLaws.{unless_err}
 use Rattle.pic_num.proofs.FirstLaws.{number_is}
+use Rattle.pic_block.specs.Cells.{IsCells, IsWithin}
 use Rattle.pic_grid.specs.declared.stop.Stop.{Stop}
 use Rattle.pic_grid.specs.Gather.{gathered_e, gathered_b}
-use Rattle.pic_grid.specs.Cells.{IsCells, IsWithin}
 use Rattle.pic_grid.specs.PushPhase.{Surroundings, CanShare, kind_of, no_kind, push_of, push_stop}
 use Rattle.pic_grid.proofs.LeastHaltLaws.{least_halt}
 use Rattle.pic_load.specs.Loading.{no_particle}

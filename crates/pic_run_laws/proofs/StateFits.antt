@@ -5,8 +5,8 @@ use Rattle.pic_num.specs.declared.motion.Particle.{Particle}
 use Rattle.pic_num.specs.Limits.{most_steps}
 use Rattle.pic_num.specs.Push.{Shift, Halting}
 use Rattle.pic_num.specs.Space.{Triple}
+use Rattle.pic_block.specs.Cells.{count_of}
 use Rattle.pic_grid.specs.declared.stop.Stop.{Stop}
-use Rattle.pic_grid.specs.Cells.{count_of}
 use Rattle.pic_grid.specs.PushPhase.{push_of, after_push, moved}
 use Rattle.pic_grid.proofs.LatticeLaws.{length-values_of}
 use Rattle.pic_push.proofs.PushLaws.{length-moved_all, all_kept}

@@ -3,12 +3,13 @@
 ghost use Rattle.std.specs.Prelude.{◌≡◌, ◌^◌, IfOk};
 ghost use Rattle.pic_num.specs.Sizes.{IsAtMost};
 ghost use Rattle.pic_num.specs.Space.{triple, spot};
-ghost use Rattle.pic_grid.specs.Cells.{IsCells, IsWithin};
-ghost use Rattle.pic_grid.specs.Block.{InZone, IsAmongCells, IsShaped, AllAtMost};
+ghost use Rattle.pic_block.specs.Cells.{IsCells, IsWithin};
+ghost use Rattle.pic_block.specs.Block.{InZone, IsAmongCells, IsShaped, AllAtMost};
 ghost use Rattle.pic_grid.specs.Lattice.{EachAtMost, IsParts};
 
+use pic_block::{Block, Zone};
 use pic_field::{Rooms, both_halves_in, force, free_e_in, full_e, full_e_in, half_b};
-use pic_grid::{Block, Bound, Cells, Lattice, Phase, Stop, Zone};
+use pic_grid::{Bound, Cells, Lattice, Phase, Stop};
 use pic_num::{Axis, Mult, NoMemory, Scales, Sub};
 use std::alloc::Global;
 use std::process::Abort;

@@ -2,14 +2,15 @@
 
 ghost use Rattle.std.specs.Prelude.{◌≡◌, IfOk};
 ghost use Rattle.pic_num.specs.Space.{triple, spot};
-ghost use Rattle.pic_grid.specs.Block.{IsAmongCells};
-ghost use Rattle.pic_grid.specs.Cells.{IsWithin};
+ghost use Rattle.pic_block.specs.Block.{IsAmongCells};
+ghost use Rattle.pic_block.specs.Cells.{IsWithin};
 ghost use Rattle.pic_grid.specs.Lattice.{EachAtMost, IsParts};
 ghost use Rattle.pic_filter.specs.Smoothing.{most_to_smooth};
 
 use crate::charge::{charge_one, is_in_box};
+use pic_block::{Block, Zone};
 use pic_filter::{smooth, smooth_nodes};
-use pic_grid::{Block, Cells, Lattice, Nodes, Zone};
+use pic_grid::{Cells, Lattice, Nodes};
 use pic_num::{Axis, NoMemory, Sub};
 use std::alloc::Global;
 use std::process::Abort;

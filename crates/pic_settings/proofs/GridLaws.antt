@@ -22,7 +22,7 @@ use Rattle.pic_num.specs.Limits.{allowance_of}
 use Rattle.pic_num.specs.Space.{triple}
 use Rattle.pic_num.specs.Versions.{IsSideOf, IsGridOf}
 use Rattle.pic_num.proofs.VersionLaws.{within_scheme}
-use Rattle.pic_grid.specs.Cells.{IsCells, count_of}
+use Rattle.pic_block.specs.Cells.{IsCells, count_of}
 use Rattle.pic_grid.specs.Tiles.{IsTiled, AreTiles}
 use Rattle.pic_settings.specs.Keys.{cell_limits, bit_limits, next_tiles, axis_tiles, side_in}
 

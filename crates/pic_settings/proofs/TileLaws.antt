@@ -4,7 +4,7 @@ use Rattle.std.proofs.Math.Nat.{one-le-mul}
 use Rattle.std.proofs.lemmas.Int.{ints}
 use Rattle.pic_num.specs.Limits.{most_steps}
 use Rattle.pic_num.specs.Space.{Triple, triple}
-use Rattle.pic_grid.specs.Cells.{IsCells, IsSize, count_of}
+use Rattle.pic_block.specs.Cells.{IsCells, IsSize, count_of}
 use Rattle.pic_grid.specs.Tiles.{IsTiled, AreTiles, most_tiles}
 use Rattle.pic_walk.proofs.LimitLaws.{met, meets}
 use Rattle.pic_walk.proofs.WalkLaws.{then_ok, went}

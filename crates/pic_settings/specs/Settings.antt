@@ -3,7 +3,7 @@ use Rattle.std.specs.Prelude.{ℕ, ◌≤◌}
 use Rattle.pic_num.specs.Limits.{most_steps, allowance_of}
 use Rattle.pic_num.specs.Space.{Triple}
 use Rattle.pic_num.specs.Versions.{IsVersion, IsGridOf}
-use Rattle.pic_grid.specs.Cells.{Grid, IsCells}
+use Rattle.pic_block.specs.Cells.{Grid, IsCells}
 use Rattle.pic_grid.specs.Tiles.{AreTiles}
 use Rattle.pic_walk.specs.Terms.{TermsView}
 use Rattle.pic_settings.specs.declared.settings.Settings.{Settings}

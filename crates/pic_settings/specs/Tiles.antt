@@ -2,7 +2,7 @@
 -- axis by axis from x on its limits and then what is left over, and at last all tiles together.
 use Rattle.std.specs.Prelude.{ℤ, pos, ℕ, ◌/◌, ◌%◌, List, codes, slice_index, unsigned_abs, Ok}
 use Rattle.pic_num.specs.Space.{Triple, triple}
-use Rattle.pic_grid.specs.Cells.{count_of}
+use Rattle.pic_block.specs.Cells.{count_of}
 use Rattle.pic_grid.specs.Tiles.{most_tiles}
 use Rattle.pic_walk.specs.Limits.{from_to}
 use Rattle.pic_walk.specs.Path.{key_at, element_at}

@@ -7,7 +7,7 @@ ghost use Rattle.pic_num.specs.Space.{triple};
 ghost use Rattle.pic_num.specs.Versions.{IsSideOf, IsGridOf};
 ghost use Rattle.pic_walk.specs.Path.{path_of};
 ghost use Rattle.pic_walk.specs.Walk.{WalksAs, table_of, need, array_of, three};
-ghost use Rattle.pic_grid.specs.Cells.{Grid, IsCells};
+ghost use Rattle.pic_block.specs.Cells.{Grid, IsCells};
 ghost use Rattle.pic_grid.specs.Tiles.{IsTiled, AreTiles};
 ghost use Rattle.pic_settings.specs.Keys.{grid_keys, grid, cell_limits, axis_tiles, next_tiles, tiles, side_in};
 

@@ -4,7 +4,7 @@ ghost use Rattle.std.specs.Prelude.{◌≡◌, ℕ, pos, ◌≤◌, IfOk, OnOk, 
 ghost use Rattle.pic_num.specs.Space.{triple};
 ghost use Rattle.pic_walk.specs.Path.{path_of};
 ghost use Rattle.pic_walk.specs.Walk.{WalksAs};
-ghost use Rattle.pic_grid.specs.Cells.{IsCells, IsSize, count_of};
+ghost use Rattle.pic_block.specs.Cells.{IsCells, IsSize, count_of};
 ghost use Rattle.pic_grid.specs.Tiles.{IsTiled, AreTiles, most_tiles};
 ghost use Rattle.pic_settings.specs.Tiles.{tiles_of_axis, few_tiles, tiles_fit};
 

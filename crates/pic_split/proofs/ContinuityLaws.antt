@@ -10,13 +10,13 @@ use Rattle.pic_num.specs.Push.{plus}
 use Rattle.pic_num.specs.Space.{Triple, Spot, along, next_axis, unwrapped, AreAtMost}
 use Rattle.pic_num.proofs.Ring.{ring, reads}
 use Rattle.pic_num.proofs.Simpson.{continuity}
+use Rattle.pic_block.specs.Cells.{IsWithin}
 use Rattle.pic_grid.specs.Current.{sum_images, wrapped}
 use Rattle.pic_grid.specs.Differences.{down, div_e}
 use Rattle.pic_grid.specs.Flux.{edge_weight, flux, path_flux}
 use Rattle.pic_grid.specs.Hat.{hat, weight, HasTwo, IsInBox}
 use Rattle.pic_grid.specs.Path.{floor_cell, path, same_int}
 use Rattle.pic_grid.specs.Segment.{Piece, IsInCell, IsOfCells, Leads, arrived, onward}
-use Rattle.pic_grid.specs.Cells.{IsWithin}
 use Rattle.pic_grid.specs.Sums.{sum_over}
 use Rattle.pic_split.specs.Continuity.{Continuity}
 use Rattle.pic_split.specs.Move.{wrapped_point}

@@ -8,9 +8,9 @@ use Rattle.pic_num.specs.declared.axis.Axis.TheVariants.{X, Y, Z}
 use Rattle.pic_num.specs.Flux.{simpson}
 use Rattle.pic_num.specs.Space.{Triple, Spot}
 use Rattle.pic_num.proofs.Ring.{ring, reads}
+use Rattle.pic_block.specs.Cells.{IsWithin}
 use Rattle.pic_grid.specs.Current.{sum_images, wrapped}
 use Rattle.pic_grid.specs.Differences.{down, div_e}
-use Rattle.pic_grid.specs.Cells.{IsWithin}
 use Rattle.pic_grid.specs.Sums.{sum_over}
 
 -- The sum over the images of an index.

@@ -3,12 +3,12 @@
 use Rattle.std.specs.Prelude.{◌≡◌, ℤ, pos, ℕ, ◌<◌, ◌-ℤ◌, ◌*ℤ◌}
 use Rattle.pic_num.specs.Push.{plus}
 use Rattle.pic_num.specs.Space.{Triple, Spot, unwrapped, AreAtMost}
+use Rattle.pic_block.specs.Cells.{IsWithin}
 use Rattle.pic_grid.specs.Current.{wrapped}
 use Rattle.pic_grid.specs.Differences.{div_e}
 use Rattle.pic_grid.specs.Flux.{path_flux}
 use Rattle.pic_grid.specs.Hat.{weight, HasTwo, IsInBox}
 use Rattle.pic_grid.specs.Path.{path}
-use Rattle.pic_grid.specs.Cells.{IsWithin}
 use Rattle.pic_split.specs.Move.{wrapped_point}
 
 -- A particle of charge q moves from a position of the box by d, at most the side of a cell on each

@@ -9,10 +9,10 @@ use Rattle.pic_num.specs.declared.motion.Particle.{Particle}
 use Rattle.pic_num.specs.declared.axis.Axis.{Axis}
 use Rattle.pic_num.specs.Push.{Shift, Halting}
 use Rattle.pic_num.specs.Space.{Triple, triple}
+use Rattle.pic_block.specs.Cells.{IsWithin}
 use Rattle.pic_grid.specs.Current.{flux_after, current}
 use Rattle.pic_grid.specs.Differences.{div_e, curl_b}
 use Rattle.pic_grid.specs.Hat.{HasTwo, IsInBox}
-use Rattle.pic_grid.specs.Cells.{IsWithin}
 use Rattle.pic_grid.specs.PushPhase.{Surroundings, kind_of, push_of, after_push, moved, moved_all, CanShare}
 use Rattle.pic_grid.specs.Sums.{sum_over}
 use Rattle.pic_grid.proofs.DifferenceLaws.{div_e-curl_b}

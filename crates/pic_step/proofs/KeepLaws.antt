@@ -7,9 +7,9 @@ use Rattle.pic_num.specs.declared.axis.Axis.{Axis}
 use Rattle.pic_num.specs.declared.axis.Axis.TheVariants.{X, Y, Z}
 use Rattle.pic_num.specs.Rounding.{scaled}
 use Rattle.pic_num.specs.Space.{Triple}
+use Rattle.pic_block.specs.Cells.{IsWithin}
 use Rattle.pic_grid.specs.Differences.{up, curl_e, div_b}
 use Rattle.pic_grid.specs.Lattice.{value_at}
-use Rattle.pic_grid.specs.Cells.{IsWithin}
 use Rattle.pic_grid.specs.Parts.{one_part}
 use Rattle.pic_grid.proofs.DifferenceLaws.{div_b-curl_e}
 use Rattle.pic_grid.proofs.LatticeLaws.{value_at-field_of}

@@ -11,7 +11,7 @@ use Rattle.pic_num.specs.declared.axis.Axis.TheVariants.{X}
 use Rattle.pic_num.specs.declared.motion.Particle.{Particle}
 use Rattle.pic_num.specs.NoParticle.{no_particle}
 use Rattle.pic_num.specs.Space.{Triple, triple}
-use Rattle.pic_grid.specs.Cells.{place_of}
+use Rattle.pic_block.specs.Cells.{place_of}
 use Rattle.pic_grid.specs.Lattice.{Field, value_at, with_value}
 use Rattle.pic_devices.specs.declared.place.Place.{Place}
 use Rattle.pic_tile.specs.InOrder.{AreOrdered, written}

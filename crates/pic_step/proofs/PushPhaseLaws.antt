@@ -9,10 +9,10 @@ use Rattle.pic_num.specs.declared.motion.Particle.{Particle}
 use Rattle.pic_num.specs.declared.mult.Scales.{Scales}
 use Rattle.pic_num.specs.Multiplier.{Multiplier}
 use Rattle.pic_num.specs.Sizes.{IsAtMost}
+use Rattle.pic_block.specs.Cells.{IsWithin, count_of}
 use Rattle.pic_grid.specs.declared.stop.Stop.{Stop}
 use Rattle.pic_grid.specs.Gather.{force_of}
 use Rattle.pic_grid.specs.Lattice.{Field, value_at, field_of}
-use Rattle.pic_grid.specs.Cells.{IsWithin, count_of}
 use Rattle.pic_grid.specs.Parts.{layered}
 use Rattle.pic_num.specs.Space.{Triple}
 use Rattle.pic_grid.specs.PushPhase.{Surroundings, CanShare, moved_all}

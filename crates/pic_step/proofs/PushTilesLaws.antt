@@ -8,15 +8,15 @@ use Rattle.std.proofs.lemmas.List.Elements.{All-weaker}
 use Rattle.pic_num.specs.declared.axis.Axis.{Axis}
 use Rattle.pic_num.specs.declared.motion.Particle.{Particle}
 use Rattle.pic_num.specs.Space.{Triple, Spot, triple, unwrapped}
+use Rattle.pic_block.specs.Block.{AllAtMost, inner_of, inner_at, outer_of}
+use Rattle.pic_block.specs.Cells.{Grid, IsWithin, count_of}
+use Rattle.pic_block.proofs.BlockLaws.{inner_within}
 use Rattle.pic_grid.specs.declared.stop.Stop.{Stop}
-use Rattle.pic_grid.specs.Block.{AllAtMost, inner_of, inner_at, outer_of}
-use Rattle.pic_grid.specs.Cells.{Grid, IsWithin, count_of}
 use Rattle.pic_grid.specs.Current.{current}
 use Rattle.pic_grid.specs.Hat.{IsInBox, HasTwo}
 use Rattle.pic_grid.specs.Parts.{layered}
 use Rattle.pic_grid.specs.Traces.{most_flux}
 use Rattle.pic_grid.specs.PushPhase.{Surroundings, CanShare, moved_all}
-use Rattle.pic_grid.proofs.BlockLaws.{inner_within}
 use Rattle.pic_tile.specs.InOrder.{AreOrdered}
 use Rattle.pic_tile.specs.Same.{Same}
 use Rattle.pic_tile.specs.StandFor.{owned}

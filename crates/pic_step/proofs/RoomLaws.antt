@@ -1,7 +1,7 @@
 -- A push of all tiles by a core, in the room of a state.
 use Rattle.std.proofs.Common.{◌≡◌, ℕ, ◌<◌, List, ◌∙◌, subst}
-use Rattle.pic_grid.specs.Block.{AllAtMost}
-use Rattle.pic_grid.specs.Cells.{count_of}
+use Rattle.pic_block.specs.Block.{AllAtMost}
+use Rattle.pic_block.specs.Cells.{count_of}
 use Rattle.pic_grid.specs.Traces.{most_flux}
 use Rattle.pic_tile.specs.CoreState.{CoreState, tile_count, all_particles}
 use Rattle.pic_tile.specs.Directions.{here}

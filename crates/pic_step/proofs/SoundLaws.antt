@@ -8,11 +8,11 @@ use Rattle.pic_num.proofs.FirstLaws.{left_none, right_none}
 use Rattle.pic_num.specs.declared.axis.Axis.{Axis}
 use Rattle.pic_num.specs.Multiplier.{Multiplier}
 use Rattle.pic_num.specs.Space.{Triple}
+use Rattle.pic_block.specs.Cells.{IsCells}
 use Rattle.pic_grid.specs.declared.stop.Phase.{Phase}
 use Rattle.pic_grid.specs.declared.stop.Phase.TheVariants.{Half1, Half2, Electric}
 use Rattle.pic_grid.specs.Lattice.{value_at, field_of}
 use Rattle.pic_grid.specs.Hat.{HasTwo}
-use Rattle.pic_grid.specs.Cells.{IsCells}
 use Rattle.pic_grid.specs.PushPhase.{moved_all, push_stop}
 use Rattle.pic_grid.proofs.LatticeLaws.{value_at-field_of}
 use Rattle.pic_charge.specs.Charge.{rho_of}

@@ -4,7 +4,7 @@ use Rattle.std.proofs.lemmas.List.{get_or-map, length-map, map-append, take_more
 use Rattle.std.proofs.lemmas.List.Elements.{All-from_get_or}
 use Rattle.pic_num.specs.declared.motion.Kind.{Kind}
 use Rattle.pic_num.specs.Space.{Triple}
-use Rattle.pic_grid.specs.Cells.{Grid}
+use Rattle.pic_block.specs.Cells.{Grid}
 use Rattle.pic_grid.specs.Lattice.{Field}
 use Rattle.pic_grid.specs.Tiles.{AreTiles}
 use Rattle.pic_grid.specs.PushPhase.{no_kind}

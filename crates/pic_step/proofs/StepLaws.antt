@@ -4,12 +4,12 @@ use Rattle.pic_num.specs.Limits.{most_steps}
 use Rattle.pic_num.specs.declared.motion.Particle.{Particle}
 use Rattle.pic_num.specs.declared.axis.Axis.{Axis}
 use Rattle.pic_num.specs.Space.{Triple}
+use Rattle.pic_block.specs.Cells.{IsWithin}
 use Rattle.pic_grid.specs.declared.stop.Phase.TheVariants.{Half1, Half2, Electric}
 use Rattle.pic_grid.specs.declared.stop.Stop.{Stop}
 use Rattle.pic_grid.specs.Lattice.{Field, value_at}
 use Rattle.pic_grid.specs.Current.{current}
 use Rattle.pic_grid.specs.Gather.{force_of}
-use Rattle.pic_grid.specs.Cells.{IsWithin}
 use Rattle.pic_grid.specs.Parts.{one_part}
 use Rattle.pic_grid.specs.PushPhase.{Surroundings, push_stop}
 use Rattle.pic_filter.specs.Smoothing.{filtered}

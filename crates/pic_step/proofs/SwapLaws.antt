@@ -6,14 +6,14 @@ use Rattle.std.proofs.Math.Decide.{ℕ_discrete}
 use Rattle.std.proofs.Math.Nat.{mul-div_cancel_left}
 use Rattle.std.proofs.lemmas.List.{length-set}
 use Rattle.pic_num.specs.declared.axis.Axis.{Axis}
+use Rattle.pic_block.specs.Block.{BlockValues, InZone, inner_of, edge_at, outer_of, no_block}
+use Rattle.pic_block.specs.Cells.{IsWithin, count_of, index_of, cell_of}
+use Rattle.pic_block.proofs.BlockLaws.{inner_within}
 use Rattle.pic_grid.specs.Traces.{most_flux}
 use Rattle.pic_num.specs.Sizes.{IsAtMost}
 use Rattle.pic_num.specs.Space.{Triple, Spot, unwrapped}
-use Rattle.pic_grid.specs.Block.{BlockValues, InZone, inner_of, edge_at, outer_of}
-use Rattle.pic_grid.specs.Cells.{IsWithin, count_of, index_of, cell_of}
 use Rattle.pic_grid.specs.Lattice.{Field, EachAtMost, value_at, field_of}
-use Rattle.pic_grid.specs.Parts.{part_size, part_with, corner_of, no_block, ArePartsOf, joined}
-use Rattle.pic_grid.proofs.BlockLaws.{inner_within}
+use Rattle.pic_grid.specs.Parts.{part_size, part_with, corner_of, ArePartsOf, joined}
 use Rattle.pic_grid.proofs.LatticeLaws.{value_at-field_of}
 use Rattle.pic_grid.proofs.PartLaws.{value_at-joined}
 use Rattle.pic_tile.specs.declared.parcel.Parcel.{Parcel}

@@ -6,8 +6,8 @@ use Rattle.pic_num.specs.Sizes.{IsAtMost}
 use Rattle.pic_num.specs.declared.axis.Axis.{Axis}
 use Rattle.pic_num.specs.declared.motion.Particle.{Particle}
 use Rattle.pic_num.specs.Space.{Triple, Spot, unwrapped}
-use Rattle.pic_grid.specs.Block.{AllAtMost, InZone}
-use Rattle.pic_grid.specs.Cells.{IsWithin, count_of}
+use Rattle.pic_block.specs.Block.{AllAtMost, InZone}
+use Rattle.pic_block.specs.Cells.{IsWithin, count_of}
 use Rattle.pic_grid.specs.Current.{current}
 use Rattle.pic_grid.specs.PushPhase.{Surroundings, moved_all, push_stop}
 use Rattle.pic_grid.specs.Sums.{sum_over}

@@ -1,9 +1,9 @@
 -- The push of all particles of a state, and the exchange of what leaves their tiles.
 use Rattle.std.specs.Prelude.{◌≡◌, ℕ, ◌<◌, Result, Ok, Err}
 use Rattle.pic_num.specs.declared.no_memory.NoMemory.{NoMemory}
+use Rattle.pic_block.specs.Block.{AllAtMost}
+use Rattle.pic_block.specs.Cells.{count_of}
 use Rattle.pic_grid.specs.Traces.{most_flux}
-use Rattle.pic_grid.specs.Block.{AllAtMost}
-use Rattle.pic_grid.specs.Cells.{count_of}
 use Rattle.pic_tile.specs.CoreState.{all_particles}
 use Rattle.pic_tile.specs.Directions.{here}
 use Rattle.pic_tile.specs.Exchanged.{AreExchanged}

@@ -1,9 +1,9 @@
 -- What a step keeps of a state.
 use Rattle.std.specs.Prelude.{◌≡◌, suc}
 use Rattle.pic_num.specs.Space.{Triple}
+use Rattle.pic_block.specs.Cells.{IsWithin}
 use Rattle.pic_grid.specs.Differences.{div_b}
 use Rattle.pic_grid.specs.Lattice.{value_at}
-use Rattle.pic_grid.specs.Cells.{IsWithin}
 use Rattle.pic_charge.specs.Gauss.{MeetsGauss}
 use Rattle.pic_step.specs.SerialStep.{World, e_of, b_of, next_world}
 use Rattle.pic_step.specs.Sound.{IsSound}

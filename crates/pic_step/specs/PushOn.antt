@@ -5,8 +5,8 @@ use Rattle.pic_num.specs.declared.motion.Particle.{Particle}
 use Rattle.pic_num.specs.declared.axis.Axis.{Axis}
 use Rattle.pic_num.specs.declared.mult.Scales.{Scales}
 use Rattle.pic_num.specs.Space.{Triple}
+use Rattle.pic_block.specs.Cells.{IsWithin}
 use Rattle.pic_grid.specs.declared.stop.Stop.{Stop}
-use Rattle.pic_grid.specs.Cells.{IsWithin}
 use Rattle.pic_grid.specs.Current.{current}
 use Rattle.pic_grid.specs.Lattice.{Field, value_at, field_of}
 use Rattle.pic_grid.specs.Parts.{layered}

@@ -10,11 +10,11 @@ use Rattle.pic_num.specs.declared.mult.Scales.{Scales}
 use Rattle.pic_num.specs.declared.axis.Axis.{Axis}
 use Rattle.pic_num.specs.Push.{unless}
 use Rattle.pic_num.specs.Space.{Triple}
+use Rattle.pic_block.specs.Cells.{Grid}
 use Rattle.pic_grid.specs.declared.loops.Loop.{Loop}
 use Rattle.pic_grid.specs.declared.stop.Phase.{Phase}
 use Rattle.pic_grid.specs.declared.stop.Phase.TheVariants.{Half1, Half2, Electric}
 use Rattle.pic_grid.specs.declared.stop.Stop.{Stop}
-use Rattle.pic_grid.specs.Cells.{Grid}
 use Rattle.pic_grid.specs.Current.{current}
 use Rattle.pic_grid.specs.Lattice.{Field, value_at, values_of}
 use Rattle.pic_grid.specs.Gather.{force_of}

@@ -6,8 +6,8 @@ use Rattle.pic_num.specs.declared.axis.Axis.{Axis}
 use Rattle.pic_num.specs.Multiplier.{Multiplier}
 use Rattle.pic_num.specs.Space.{Triple, spot}
 use Rattle.pic_num.specs.Velocity.{IsKeptVelocity}
+use Rattle.pic_block.specs.Cells.{IsCells, IsWithin}
 use Rattle.pic_grid.specs.Lattice.{Field, value_at}
-use Rattle.pic_grid.specs.Cells.{IsCells, IsWithin}
 use Rattle.pic_grid.specs.Loops.{AreLoops}
 use Rattle.pic_grid.specs.PushPhase.{CanShare}
 use Rattle.pic_charge.specs.Gauss.{MeetsGauss}

@@ -1,10 +1,10 @@
 -- The flux that tiles have after their push, and the tiles while it is elsewhere and when it is spent.
 use Rattle.std.specs.Prelude.{◌≡◌, ℕ, ℤ, ◌<◌, List, length, None, Some}
+use Rattle.pic_block.specs.Block.{BlockValues, AllAtMost, edge_at}
+use Rattle.pic_block.specs.Cells.{count_of}
 use Rattle.pic_grid.specs.Traces.{most_flux}
 use Rattle.pic_num.specs.declared.axis.Axis.{Axis}
 use Rattle.pic_num.specs.Space.{Triple, unwrapped}
-use Rattle.pic_grid.specs.Block.{BlockValues, AllAtMost, edge_at}
-use Rattle.pic_grid.specs.Cells.{count_of}
 use Rattle.pic_tile.specs.declared.parcel.Parcel.{Parcel}
 use Rattle.pic_tile.specs.Directions.{directions, here}
 use Rattle.pic_tile.specs.Parcels.{IsReady, IsFresh}

@@ -1,7 +1,7 @@
 //! What a run begins with: its fields and particles, before Gauss's law is tested.
 
 ghost use Rattle.std.specs.Prelude.{◌≡◌, pos, ◌*◌, replicate, IfOk};
-ghost use Rattle.pic_grid.specs.Cells.{count_of};
+ghost use Rattle.pic_block.specs.Cells.{count_of};
 ghost use Rattle.pic_deck.specs.Deck.{deck_grid};
 ghost use Rattle.pic_step.specs.SerialRun.{kinds_of};
 ghost use Rattle.pic_tile.specs.Tiling.{cells_of, grid_of_tiling, tiles_of};

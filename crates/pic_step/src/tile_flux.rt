@@ -5,7 +5,7 @@ ghost use Rattle.pic_tile.specs.Directions.{here};
 ghost use Rattle.pic_tile.specs.Tile.{parcel_at, tile_in};
 ghost use Rattle.pic_step.specs.TileFlux.{IsSwapped, AreSwapped};
 
-use pic_grid::{Block, Zone};
+use pic_block::{Block, Zone};
 use pic_num::NoMemory;
 use pic_tile::{Dir, Tile};
 use std::alloc::Global;

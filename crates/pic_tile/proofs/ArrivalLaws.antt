@@ -1,7 +1,7 @@
 -- What a tile has after all merges: the particles of the list that the push led to it.
 use Rattle.std.proofs.Common.{◌≡◌, ℕ, ◌<◌, Bool, true, cond, All, List, [], map, sum_by, refl, ◌∙◌, ap}
 use Rattle.pic_num.specs.declared.motion.Particle.{Particle}
-use Rattle.pic_grid.specs.Cells.{count_of}
+use Rattle.pic_block.specs.Cells.{count_of}
 use Rattle.pic_grid.specs.PushPhase.{Surroundings, moved_all}
 use Rattle.pic_tile.specs.Same.{Same}
 use Rattle.pic_tile.specs.StandFor.{owned}

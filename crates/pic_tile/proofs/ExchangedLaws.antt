@@ -4,9 +4,9 @@ use Rattle.std.proofs.lemmas.List.{length-map}
 use Rattle.std.proofs.lemmas.List.Elements.{All-nil, All-weaker}
 use Rattle.pic_num.specs.declared.motion.Particle.{Particle}
 use Rattle.pic_num.specs.Space.{triple}
+use Rattle.pic_block.specs.Block.{inner_at}
+use Rattle.pic_block.specs.Cells.{count_of}
 use Rattle.pic_grid.specs.declared.stop.Stop.{Stop}
-use Rattle.pic_grid.specs.Block.{inner_at}
-use Rattle.pic_grid.specs.Cells.{count_of}
 use Rattle.pic_grid.specs.Hat.{IsInBox, HasTwo}
 use Rattle.pic_grid.specs.PushPhase.{Surroundings, push_of, push_stop, moved_all}
 use Rattle.pic_tile.specs.InOrder.{AreOrdered}

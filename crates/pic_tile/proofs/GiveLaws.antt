@@ -4,13 +4,13 @@ use Rattle.std.proofs.Math.IntN.{ℤ, pos, ◌+ℤ◌, ◌-ℤ◌}
 use Rattle.std.proofs.lemmas.Bool.Decides.{nat_tests}
 use Rattle.std.proofs.lemmas.Int.{ints}
 use Rattle.std.specs.Prelude.{◌&&◌, nat_lt, ◌==◌}
+use Rattle.pic_block.specs.Block.{BlockValues, inner_at}
+use Rattle.pic_block.specs.BlockLayers.{is_from, is_over, lowered_by, box_of, layer_of}
+use Rattle.pic_block.specs.Cells.{IsWithin}
+use Rattle.pic_block.proofs.BlockLayerLaws.{over_tells, cell_in, in_zone, inner_edge}
 use Rattle.pic_grid.specs.Hat.{HasTwo}
 use Rattle.pic_num.specs.declared.axis.Axis.{Axis}
 use Rattle.pic_num.specs.Space.{Triple, Spot}
-use Rattle.pic_grid.specs.Block.{BlockValues, inner_at}
-use Rattle.pic_grid.specs.BlockLayers.{is_from, is_over, lowered_by, box_of, layer_of}
-use Rattle.pic_grid.specs.Cells.{IsWithin}
-use Rattle.pic_grid.proofs.BlockLayerLaws.{over_tells, cell_in, in_zone, inner_edge}
 use Rattle.pic_tile.specs.Directions.{steps_of}
 use Rattle.pic_tile.specs.Layers.{layer_count, layer_low, layer_begin, layer_at, layers_size, layers_from}
 use Rattle.pic_tile.specs.Layers.{layers_begin, lowest_cell, IsLayers, at_some, pick, given_at}

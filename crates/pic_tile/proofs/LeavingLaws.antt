@@ -5,12 +5,12 @@ use Rattle.std.proofs.lemmas.Bool.Decides.{nat_tests}
 use Rattle.pic_num.specs.declared.motion.Particle.{Particle}
 use Rattle.pic_num.specs.Push.{Shift, Halting, plus}
 use Rattle.pic_num.specs.Space.{Triple, Spot, triple, unwrapped, AreAtMost}
-use Rattle.pic_grid.specs.Cells.{count_of, index_of, cell_of}
+use Rattle.pic_block.specs.Cells.{count_of, index_of, cell_of}
+use Rattle.pic_block.proofs.CellLaws.{cell_of_within, index_of-cell_of}
 use Rattle.pic_grid.specs.Hat.{IsInBox, HasTwo}
 use Rattle.pic_grid.specs.Parts.{part_with}
 use Rattle.pic_grid.specs.Path.{floor_cell}
 use Rattle.pic_grid.specs.PushPhase.{Surroundings, push_of, after_push, moved}
-use Rattle.pic_grid.proofs.CellLaws.{cell_of_within, index_of-cell_of}
 use Rattle.pic_tile.specs.Directions.{directions, here, steps_of, ring_step}
 use Rattle.pic_tile.specs.Leaving.{step_to, direction_by, direction_to, way_after, way, after_its_push}
 use Rattle.pic_tile.specs.Owners.{cell_of_point, tile_of}

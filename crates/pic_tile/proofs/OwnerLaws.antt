@@ -3,7 +3,7 @@ use Rattle.std.proofs.Common.{◌≡◌, ℕ, ◌<◌, [], ◌∷◌, All, get_o
 use Rattle.std.proofs.lemmas.Nat.{div_below}
 use Rattle.pic_num.specs.declared.motion.Particle.{Particle}
 use Rattle.pic_num.specs.Space.{Triple, triple}
-use Rattle.pic_grid.specs.Cells.{IsWithin}
+use Rattle.pic_block.specs.Cells.{IsWithin}
 use Rattle.pic_grid.specs.Hat.{IsInBox}
 use Rattle.pic_tile.specs.Owners.{cell_of_point}
 

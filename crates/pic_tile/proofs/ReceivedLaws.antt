@@ -12,15 +12,15 @@ use Rattle.pic_num.specs.declared.motion.Particle.{Particle}
 use Rattle.pic_num.specs.Limits.{most_side, most_particles}
 use Rattle.pic_num.specs.Sizes.{IsAtMost}
 use Rattle.pic_num.specs.Space.{Triple, Spot, triple}
-use Rattle.pic_grid.specs.Block.{BlockValues, AllAtMost, inner_of, inner_at, outer_of}
-use Rattle.pic_grid.specs.Cells.{IsWithin, count_of}
+use Rattle.pic_block.specs.Block.{BlockValues, AllAtMost, inner_of, inner_at, outer_of}
+use Rattle.pic_block.specs.Cells.{IsWithin, count_of}
+use Rattle.pic_block.proofs.BlockLaws.{inner_within, all_at_most_more}
 use Rattle.pic_grid.specs.Current.{current}
 use Rattle.pic_grid.specs.Hat.{IsInBox, HasTwo}
 use Rattle.pic_grid.specs.PushPhase.{Surroundings}
 use Rattle.pic_grid.specs.Species.{IsKind}
 use Rattle.pic_grid.specs.Sums.{sum_below}
 use Rattle.pic_grid.specs.Traces.{traces, most_flux, IsFluxAtMost}
-use Rattle.pic_grid.proofs.BlockLaws.{inner_within, all_at_most_more}
 use Rattle.pic_grid.proofs.SumLaws.{sum_same}
 use Rattle.pic_tile.specs.declared.parcel.Parcel.{Parcel}
 use Rattle.pic_tile.specs.Directions.{directions, here, steps_of}

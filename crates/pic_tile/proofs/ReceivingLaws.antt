@@ -7,17 +7,17 @@ use Rattle.std.specs.List.{sum_by}
 use Rattle.std.proofs.lemmas.Bool.{false≢true}
 use Rattle.std.proofs.lemmas.Int.{ints}
 use Rattle.std.proofs.lemmas.List.Sums.{sum_by-append}
+use Rattle.pic_block.specs.Block.{BlockValues, inner_at}
+use Rattle.pic_block.specs.BlockLayers.{AddsLayers, layer_of, lowered_by}
+use Rattle.pic_block.specs.Cells.{IsWithin, count_of}
+use Rattle.pic_block.proofs.BlockLayerLaws.{IsOver, tells_over, layer_over}
 use Rattle.pic_grid.specs.Hat.{HasTwo}
 use Rattle.pic_num.specs.declared.axis.Axis.{Axis}
 use Rattle.pic_num.specs.declared.motion.Particle.{Particle}
 use Rattle.pic_num.specs.Space.{Triple}
 use Rattle.pic_grid.specs.declared.stop.Stop.{Stop}
-use Rattle.pic_grid.specs.Block.{BlockValues, inner_at}
-use Rattle.pic_grid.specs.BlockLayers.{AddsLayers, layer_of, lowered_by}
-use Rattle.pic_grid.specs.Cells.{IsWithin, count_of}
 use Rattle.pic_grid.specs.PushPhase.{Surroundings}
 use Rattle.pic_grid.specs.Traces.{traces}
-use Rattle.pic_grid.proofs.BlockLayerLaws.{IsOver, tells_over, layer_over}
 use Rattle.pic_grid.proofs.SumLaws.{sum_same}
 use Rattle.pic_tile.specs.Same.{Same}
 use Rattle.pic_tile.specs.StopOf.{IsStopOf}

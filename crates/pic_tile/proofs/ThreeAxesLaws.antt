@@ -5,13 +5,13 @@ use Rattle.std.proofs.Math.IntN.{ℤ, pos, ◌+ℤ◌, ◌-ℤ◌}
 use Rattle.std.proofs.lemmas.Bool.{cases_Bool, and_parts, eqb-true, eq-eqb, false_from_ne_true, true≢false}
 use Rattle.std.proofs.lemmas.Int.{ints}
 use Rattle.std.specs.Prelude.{◌==◌, ◌&&◌}
+use Rattle.pic_block.specs.Block.{outer_of}
+use Rattle.pic_block.specs.Cells.{IsWithin, count_of, index_of, cell_of}
+use Rattle.pic_block.proofs.CellLaws.{cell_of-index_of, index_of-cell_of, cell_of_within}
 use Rattle.pic_grid.specs.Hat.{HasTwo}
 use Rattle.pic_num.specs.Space.{Triple, Spot}
-use Rattle.pic_grid.specs.Block.{outer_of}
-use Rattle.pic_grid.specs.Cells.{IsWithin, count_of, index_of, cell_of}
 use Rattle.pic_grid.specs.Current.{sum_images, wrapped}
 use Rattle.pic_grid.specs.Sums.{sum_below}
-use Rattle.pic_grid.proofs.CellLaws.{cell_of-index_of, index_of-cell_of, cell_of_within}
 use Rattle.pic_grid.proofs.SumLaws.{sum_same}
 use Rattle.pic_tile.proofs.SumLaws.{sum_none}
 use Rattle.pic_tile.specs.Directions.{directions, ring_step}

@@ -2,13 +2,13 @@
 use Rattle.std.proofs.Common.{◌≡◌, ℕ, pos, ◌+◌, ◌-◌, ◌*◌, ◌/◌, ◌%◌, ◌<◌, ◌≤◌, ◌+ℤ◌, ◌≤ℤ◌, ◌<ℤ◌, sym, ◌∙◌, ap, subst, arith}
 use Rattle.std.proofs.lemmas.Int.{ints}
 use Rattle.std.proofs.lemmas.Nat.{div-mul-add, div_below}
+use Rattle.pic_block.specs.Cells.{IsWithin, count_of, index_of, cell_of}
+use Rattle.pic_block.specs.Block.{InZone}
+use Rattle.pic_block.proofs.CellLaws.{index_of_below, cell_of-index_of, index_of-cell_of, cell_of_within}
 use Rattle.pic_grid.proofs.PartLaws.{in_part}
 use Rattle.pic_grid.specs.Hat.{HasTwo}
 use Rattle.pic_num.specs.Space.{Triple, unwrapped}
-use Rattle.pic_grid.specs.Cells.{IsWithin, count_of, index_of, cell_of}
-use Rattle.pic_grid.specs.Block.{InZone}
 use Rattle.pic_grid.specs.Parts.{part_with, corner_of}
-use Rattle.pic_grid.proofs.CellLaws.{index_of_below, cell_of-index_of, index_of-cell_of, cell_of_within}
 use Rattle.pic_tile.specs.Directions.{directions, steps_of, opposite, ring_step}
 use Rattle.pic_tile.specs.Tiling.{Tiling, IsMap, cells_of, IsInTile, owner_of, place_beside, neighbour_of}
 use Rattle.pic_tile.proofs.RingLaws.{ring_below, ring_back}

@@ -2,8 +2,8 @@
 use Rattle.std.proofs.Common.{ℕ, ◌+◌, ◌*◌, ◌<◌, ◌≤◌, arith}
 use Rattle.std.proofs.Math.Nat.{mul-le-mul_right}
 use Rattle.std.proofs.lemmas.Int.{ints}
-use Rattle.pic_grid.specs.Cells.{IsWithin, count_of, cell_of}
-use Rattle.pic_grid.proofs.CellLaws.{cell_of_within}
+use Rattle.pic_block.specs.Cells.{IsWithin, count_of, cell_of}
+use Rattle.pic_block.proofs.CellLaws.{cell_of_within}
 use Rattle.pic_tile.specs.Layers.{lowest_cell}
 use Rattle.pic_tile.specs.Tiling.{Tiling, IsMap}
 use Rattle.pic_tile.specs.Zones.{IsTileZone}

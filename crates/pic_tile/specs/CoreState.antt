@@ -6,7 +6,7 @@ use Rattle.std.specs.Prelude.{true, false, ◌&&◌, nat_lt, Option, None, slice
 use Rattle.std.specs.List.{All, range_with_len, flat_map}
 use Rattle.pic_num.specs.declared.motion.Particle.{Particle}
 use Rattle.pic_num.specs.Limits.{least_side, most_side, most_particles}
-use Rattle.pic_grid.specs.Cells.{count_of}
+use Rattle.pic_block.specs.Cells.{count_of}
 use Rattle.pic_grid.specs.PushPhase.{CanShare}
 use Rattle.pic_tile.specs.InOrder.{in_order, AreOrdered}
 use Rattle.pic_tile.specs.Totals.{together}

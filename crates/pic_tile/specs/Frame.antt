@@ -3,7 +3,7 @@ use Rattle.std.specs.Prelude.{◌≡◌, ◌≤◌, List, length}
 use Rattle.std.specs.List.{All}
 use Rattle.pic_num.specs.declared.motion.Kind.{Kind}
 use Rattle.pic_num.specs.Limits.{most_force, most_species}
-use Rattle.pic_grid.specs.Cells.{Grid}
+use Rattle.pic_block.specs.Cells.{Grid}
 use Rattle.pic_grid.specs.Felt.{felt}
 use Rattle.pic_grid.specs.Lattice.{Field, EachAtMost}
 use Rattle.pic_grid.specs.PushPhase.{Surroundings}

@@ -4,8 +4,8 @@ use Rattle.std.specs.List.{All}
 use Rattle.pic_num.specs.declared.axis.Axis.{Axis}
 use Rattle.pic_num.specs.declared.motion.Particle.{Particle}
 use Rattle.pic_num.specs.Space.{Triple, triple}
-use Rattle.pic_grid.specs.Block.{outer_of}
-use Rattle.pic_grid.specs.Cells.{IsWithin, count_of}
+use Rattle.pic_block.specs.Block.{outer_of}
+use Rattle.pic_block.specs.Cells.{IsWithin, count_of}
 use Rattle.pic_grid.specs.Current.{current}
 use Rattle.pic_grid.specs.Hat.{IsInBox, HasTwo}
 use Rattle.pic_grid.specs.PushPhase.{Surroundings}

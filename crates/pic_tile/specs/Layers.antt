@@ -5,8 +5,8 @@
 use Rattle.std.specs.Prelude.{◌≡◌, ℕ, zero, suc, ℤ, pos, ◌+◌, ◌-◌, ◌<ℤ◌, ◌⊎◌, ◌+ℤ◌, ◌-ℤ◌, ◌==◌, nat_lt, Bool, if◌then◌else◌, Option, Some, None}
 use Rattle.pic_num.specs.declared.axis.Axis.{Axis}
 use Rattle.pic_num.specs.Space.{Triple, Spot}
-use Rattle.pic_grid.specs.Block.{BlockValues, InZone, edge_at}
-use Rattle.pic_grid.specs.Cells.{cell_of}
+use Rattle.pic_block.specs.Block.{BlockValues, InZone, edge_at}
+use Rattle.pic_block.specs.Cells.{cell_of}
 use Rattle.pic_grid.specs.Parts.{corner_of}
 use Rattle.pic_tile.specs.Directions.{steps_of, opposite}
 use Rattle.pic_tile.specs.Tiling.{Tiling, neighbour_of}

@@ -3,7 +3,7 @@ use Rattle.std.specs.Prelude.{◌≡◌, ℕ, ◌<◌, ℤ, pos, negsuc, ◌+◌
 use Rattle.pic_num.specs.declared.motion.Particle.{Particle}
 use Rattle.pic_num.specs.Push.{Shift, Halting, plus}
 use Rattle.pic_num.specs.Space.{Spot, triple, unwrapped}
-use Rattle.pic_grid.specs.Cells.{cell_of}
+use Rattle.pic_block.specs.Cells.{cell_of}
 use Rattle.pic_grid.specs.Hat.{IsInBox, HasTwo}
 use Rattle.pic_grid.specs.Path.{floor_cell}
 use Rattle.pic_grid.specs.PushPhase.{Surroundings, push_of, after_push}

@@ -7,9 +7,9 @@ use Rattle.pic_num.specs.declared.motion.Particle.{Particle}
 use Rattle.pic_num.specs.Limits.{most_side, most_particles}
 use Rattle.pic_num.specs.Sizes.{IsAtMost}
 use Rattle.pic_num.specs.Space.{Triple, triple}
-use Rattle.pic_grid.specs.Block.{BlockValues, IsShaped, inner_at}
-use Rattle.pic_grid.specs.BlockLayers.{AddsLayers}
-use Rattle.pic_grid.specs.Cells.{IsWithin, count_of}
+use Rattle.pic_block.specs.Block.{BlockValues, IsShaped, inner_at}
+use Rattle.pic_block.specs.BlockLayers.{AddsLayers}
+use Rattle.pic_block.specs.Cells.{IsWithin, count_of}
 use Rattle.pic_grid.specs.Hat.{IsInBox, HasTwo}
 use Rattle.pic_grid.specs.PushPhase.{Surroundings}
 use Rattle.pic_grid.specs.Species.{IsKind}

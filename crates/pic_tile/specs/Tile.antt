@@ -2,9 +2,8 @@
 -- the flux that go that way, and what stops the push.
 use Rattle.std.specs.Prelude.{◌≡◌, ℕ, List, [], length, Option, Some, None, slice_index_or, slice_set}
 use Rattle.pic_num.specs.declared.motion.Particle.{Particle}
+use Rattle.pic_block.specs.Block.{BlockValues, no_block}
 use Rattle.pic_grid.specs.declared.stop.Stop.{Stop}
-use Rattle.pic_grid.specs.Block.{BlockValues}
-use Rattle.pic_grid.specs.Parts.{no_block}
 use Rattle.pic_tile.specs.declared.parcel.Parcel.{Parcel}
 use Rattle.pic_tile.specs.Directions.{directions}
 

@@ -1,9 +1,9 @@
 -- A grid cut into equal tiles, boxes of cells that are numbered x fastest, then y, then z.
 use Rattle.std.specs.Prelude.{◌≡◌, ℕ, ◌*◌, ◌≤◌, List, length}
+use Rattle.pic_block.specs.Cells.{Grid, IsCells, IsSize, count_of, index_of, cell_of}
+use Rattle.pic_block.specs.Block.{InZone}
 use Rattle.pic_grid.specs.Hat.{HasTwo}
 use Rattle.pic_num.specs.Space.{Triple, triple, unwrapped}
-use Rattle.pic_grid.specs.Cells.{Grid, IsCells, IsSize, count_of, index_of, cell_of}
-use Rattle.pic_grid.specs.Block.{InZone}
 use Rattle.pic_grid.specs.Parts.{part_size, part_with, corner_of}
 use Rattle.pic_grid.specs.Tiles.{most_tiles}
 use Rattle.pic_tile.specs.Directions.{steps_of, ring_step}

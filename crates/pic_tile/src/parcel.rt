@@ -5,8 +5,9 @@ ghost use Rattle.std.specs.Borrow.{sem};
 ghost use Rattle.pic_tile.specs.Lending.{LendsParcel};
 
 use crate::dir::Dir;
+use pic_block::Block;
 use pic_chain::Chain;
-use pic_grid::{Block, Stop};
+use pic_grid::Stop;
 use pic_num::NoMemory;
 use std::alloc::Global;
 use std::marker::Model;

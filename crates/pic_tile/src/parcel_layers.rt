@@ -7,7 +7,7 @@ ghost use Rattle.pic_tile.specs.Layers.{layer_begin, layer_count, layer_low, lay
 ghost use Rattle.pic_tile.specs.Zones.{IsTileZone};
 
 use crate::dir::Dir;
-use pic_grid::Zone;
+use pic_block::Zone;
 
 /// How many layers a step has on an axis of `size` layers.
 #[tactic(auto, using(crate::proofs::LayerSteps::count_up))]

@@ -2,12 +2,12 @@
 
 ghost use Rattle.std.specs.Prelude.{◌≡◌, ℕ, MatchOption, IfSome, IfOk};
 ghost use Rattle.std.specs.Fn.{FnOnceTakesAtMut, FnOnceReturnsAtMut};
-ghost use Rattle.pic_grid.specs.Block.{BlockValues};
+ghost use Rattle.pic_block.specs.Block.{BlockValues};
 ghost use Rattle.pic_tile.specs.Tile.{parcel_at, with_parcel, with_flux};
 
 use crate::dir::Dir;
 use crate::parcel::{Parcel, ParcelBox};
-use pic_grid::Block;
+use pic_block::Block;
 use std::marker::Model;
 
 /// A tile has a number, and for each direction a parcel or none yet.

@@ -2,7 +2,7 @@
 
 ghost use Rattle.std.specs.Prelude.{◌≡◌, ℕ, ◌-◌, ◌*◌, ◌/◌, ◌%◌, ◌<◌, ◌≤◌};
 ghost use Rattle.pic_num.specs.Space.{triple, spot};
-ghost use Rattle.pic_grid.specs.Cells.{IsWithin, count_of, index_of, cell_of};
+ghost use Rattle.pic_block.specs.Cells.{IsWithin, count_of, index_of, cell_of};
 ghost use Rattle.pic_grid.specs.Parts.{corner_of};
 ghost use Rattle.pic_grid.specs.Tiles.{AreTiles, most_tiles};
 ghost use Rattle.pic_tile.specs.Directions.{opposite, ring_step};
@@ -10,7 +10,8 @@ ghost use Rattle.pic_tile.specs.Tiling.{IsMap, cells_of, grid_of_tiling, tiles_o
 ghost use Rattle.pic_tile.specs.Zones.{IsTileZone};
 
 use crate::dir::Dir;
-use pic_grid::{Cells, Zone};
+use pic_block::Zone;
+use pic_grid::Cells;
 use std::marker::Model;
 
 /// A grid cut into equal tiles of two layers of cells or more on each axis, numbered x fastest,
@@ -139,7 +140,7 @@ impl TileMap {
 }
 
 /// The number of the tile at a place among so many on each axis.
-#[tactic(auto, unfolding(pic_grid::specs::Cells::index_of))]
+#[tactic(auto, unfolding(pic_block::specs::Cells::index_of))]
 fn number_in(tiles: [u32; 3], place: [u32; 3]) -> u32
     requires within { IsWithin (triple place) (triple tiles) }
     requires few { count_of (triple tiles) ≤ most_tiles }

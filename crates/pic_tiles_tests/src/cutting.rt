@@ -5,7 +5,8 @@ ghost use Rattle.pic_num.specs.Space.{triple};
 ghost use Rattle.pic_grid.specs.Hat.{IsInBox};
 ghost use Rattle.pic_tile.specs.Tiling.{cells_of};
 
-use pic_grid::{Cells, Zone};
+use pic_block::Zone;
+use pic_grid::Cells;
 use pic_num::{NoMemory, Particle, Sub};
 use pic_tile::{Dir, Tile, TileMap, cut};
 use std::alloc::Global;

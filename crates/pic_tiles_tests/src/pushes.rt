@@ -3,11 +3,11 @@
 ghost use Rattle.std.specs.Prelude.{◌≡◌, [], ◌∷◌, ◌<◌, ◌≤◌, IfOk, All, length};
 ghost use Rattle.pic_num.specs.Limits.{most_particles};
 ghost use Rattle.pic_num.specs.Space.{triple};
+ghost use Rattle.pic_block.specs.Cells.{count_of};
 ghost use Rattle.pic_grid.specs.PushPhase.{CanShare, no_kind};
 ghost use Rattle.pic_grid.specs.Species.{IsKind};
 ghost use Rattle.pic_tile.specs.Directions.{directions};
 ghost use Rattle.pic_tile.specs.Tiling.{cells_of};
-ghost use Rattle.pic_grid.specs.Cells.{count_of};
 ghost use Rattle.pic_tiles_tests.specs.SmallMaps.{one_tile, eight_tiles};
 
 use pic_grid::{Cells, Lattice, Stop};

@@ -2,8 +2,8 @@
 
 ghost use Rattle.std.specs.Prelude.{◌≡◌, IfOk};
 
+use pic_block::{Block, Zone};
 use pic_chain::Chain;
-use pic_grid::{Block, Zone};
 use pic_num::{Axis, NoMemory};
 use pic_tile::{Dir, Parcel, ParcelBox, Tile};
 use std::alloc::Global;

@@ -10,12 +10,12 @@ use Rattle.pic_num.specs.Rounding.{scaled, rounded}
 use Rattle.pic_num.specs.Space.{Triple, triple, spot, along}
 use Rattle.pic_num.specs.Velocity.{too_fast, IsKeptVelocity}
 use Rattle.pic_num.proofs.VersionLaws.{side_of_bits}
-use Rattle.pic_grid.specs.Cells.{place_of}
+use Rattle.pic_block.specs.Cells.{place_of}
+use Rattle.pic_block.proofs.ShapeLaws.{zero_read}
 use Rattle.pic_grid.specs.Differences.{div_e, down}
 use Rattle.pic_grid.specs.Hat.{weight}
 use Rattle.pic_grid.specs.Lattice.{value_at}
 use Rattle.pic_grid.specs.Sums.{sum_over}
-use Rattle.pic_grid.proofs.ShapeLaws.{zero_read}
 use Rattle.pic_grid.specs.Species.{HeadView, no_head, IsName, IsKind}
 use Rattle.pic_filter.specs.Smoothing.{filtered}
 use Rattle.pic_charge.specs.Charge.{share, charge_of, rho_of}

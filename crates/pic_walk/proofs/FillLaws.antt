@@ -7,8 +7,8 @@ use Rattle.pic_num.specs.declared.axis.Axis.{Axis}
 use Rattle.pic_num.specs.declared.axis.Axis.TheVariants.{X, Y, Z}
 use Rattle.pic_num.specs.Sizes.{IsAtMost}
 use Rattle.pic_num.specs.Space.{triple, along, spot}
-use Rattle.pic_grid.specs.Cells.{Grid}
 use Rattle.pic_walk.specs.Extent.{extent_of, IsExtent}
+use Rattle.pic_block.specs.Cells.{Grid}
 use Rattle.pic_grid.specs.Hat.{IsInBox}
 use Rattle.pic_walk.specs.declared.limits.Limits.{Limits}
 use Rattle.pic_walk.specs.Limits.{MeetsLimits, FitsU32, FitsI32, from_to, below, limits_at, thrice}

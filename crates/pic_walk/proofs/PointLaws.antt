@@ -10,7 +10,7 @@ use Rattle.pic_num.specs.declared.axis.Axis.{Axis}
 use Rattle.pic_num.specs.Sizes.{IsAtMost}
 use Rattle.pic_num.specs.Space.{along, spot}
 use Rattle.pic_num.specs.Limits.{most_side}
-use Rattle.pic_grid.specs.Cells.{Grid}
+use Rattle.pic_block.specs.Cells.{Grid}
 use Rattle.pic_walk.specs.Extent.{extent_of, most_extent, IsExtent}
 use Rattle.pic_walk.specs.Bounds.{fastest}
 use Rattle.pic_walk.specs.Limits.{MeetsLimits, limits_at, below}

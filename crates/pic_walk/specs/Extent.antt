@@ -2,7 +2,7 @@
 use Rattle.std.specs.Prelude.{ℕ, ◌*◌, ◌≤◌}
 use Rattle.pic_num.specs.Limits.{most_cells_of_axis, most_side}
 use Rattle.pic_num.specs.Space.{Triple}
-use Rattle.pic_grid.specs.Cells.{Grid}
+use Rattle.pic_block.specs.Cells.{Grid}
 
 -- how many sub-cells lie along the box on each axis
 abbrev pub extent_of : Grid → Triple

@@ -3,7 +3,7 @@ use Rattle.std.specs.Prelude.{ℕ, ℤ, pos, ◌<◌, ◌≤◌, List, [], ◌�
 use Rattle.toml.specs.Data.{Data}
 use Rattle.pic_num.specs.declared.axis.Axis.TheVariants.{X}
 use Rattle.pic_num.specs.Space.{Triple, triple}
-use Rattle.pic_grid.specs.Cells.{IsWithin, axis_of}
+use Rattle.pic_block.specs.Cells.{IsWithin, axis_of}
 use Rattle.pic_walk.specs.Bounds.{most_rows}
 use Rattle.pic_walk.specs.declared.limits.Limits.{Limits}
 use Rattle.pic_walk.specs.declared.row.Row.{Row}

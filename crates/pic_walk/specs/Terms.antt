@@ -1,6 +1,6 @@
 -- What the limits of a deck go by.
 use Rattle.std.specs.Prelude.{ℕ}
-use Rattle.pic_grid.specs.Cells.{Grid}
+use Rattle.pic_block.specs.Cells.{Grid}
 
 -- the version of a deck, and its grid
 pub record TermsView : Type 0 where

@@ -2,7 +2,7 @@
 
 ghost use Rattle.std.specs.Prelude.{◌≡◌, ℕ, ℤ, pos, ◌<◌, ◌≤ℤ◌, List, None, IfOk, length, unsigned_abs, slice_index_or};
 ghost use Rattle.toml.specs.View.{view};
-ghost use Rattle.pic_grid.specs.Cells.{axis_of};
+ghost use Rattle.pic_block.specs.Cells.{axis_of};
 ghost use Rattle.pic_walk.specs.Path.{path_of};
 ghost use Rattle.pic_walk.specs.Limits.{MeetsLimits, limits_at};
 ghost use Rattle.pic_walk.specs.Walk.{WalksAs, list_by};

@@ -10,8 +10,8 @@ use Rattle.pic_num.specs.declared.axis.Axis.{Axis}
 use Rattle.pic_num.specs.Sizes.{IsAtMost}
 use Rattle.pic_num.specs.Space.{Triple, Spot, unwrapped}
 use Rattle.pic_num.proofs.SizeLaws.{codes, code_is}
-use Rattle.pic_grid.specs.Block.{BlockValues, InZone, inner_of, inner_at, edge_at}
-use Rattle.pic_grid.specs.Cells.{IsWithin, place_of}
+use Rattle.pic_block.specs.Block.{BlockValues, InZone, inner_of, inner_at, edge_at}
+use Rattle.pic_block.specs.Cells.{IsWithin, place_of}
 use Rattle.pic_grid.specs.Current.{sum_images, wrapped}
 use Rattle.pic_split.proofs.ImageLaws.{images_zero}
 use Rattle.pic_ways.specs.Margin.{has_layer, has_cell, edge_or_zero}

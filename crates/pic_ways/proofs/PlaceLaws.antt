@@ -3,9 +3,9 @@ use Rattle.std.proofs.Common.{◌≡◌, ◌≢◌, ℕ, ◌+◌, ◌*◌, ◌<�
 use Rattle.std.proofs.Math.IntN.{ℤ}
 use Rattle.pic_num.specs.declared.axis.Axis.{Axis}
 use Rattle.pic_num.specs.Space.{Triple}
-use Rattle.pic_grid.specs.Cells.{IsWithin, count_of, place_of}
+use Rattle.pic_block.specs.Cells.{IsWithin, count_of, place_of}
+use Rattle.pic_block.proofs.CellLaws.{places_more}
 use Rattle.pic_grid.specs.Lattice.{Field, value_at, with_value}
-use Rattle.pic_grid.proofs.CellLaws.{places_more}
 use Rattle.pic_grid.proofs.LatticeLaws.{value_at-same, value_at-other}
 
 -- one place more is written

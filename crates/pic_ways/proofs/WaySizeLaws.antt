@@ -12,7 +12,7 @@ use Rattle.pic_num.specs.Push.{plus}
 use Rattle.pic_num.specs.Sizes.{IsAtMost}
 use Rattle.pic_num.specs.Space.{Triple, Spot, triple, spot, along, unwrapped}
 use Rattle.pic_num.proofs.SizeLaws.{times_at_most}
-use Rattle.pic_grid.specs.Block.{BlockValues, InZone, AllAtMost}
+use Rattle.pic_block.specs.Block.{BlockValues, InZone, AllAtMost}
 use Rattle.pic_grid.specs.Current.{wrapped}
 use Rattle.pic_grid.specs.Flux.{path_flux}
 use Rattle.pic_grid.specs.Hat.{HasTwo}

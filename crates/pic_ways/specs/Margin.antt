@@ -3,7 +3,7 @@
 use Rattle.std.specs.Prelude.{ℕ, ℤ, pos, negsuc, ◌+◌, ◌+ℤ◌, Bool, ◌&&◌, int_le, int_lt, if◌then◌else◌}
 use Rattle.pic_num.specs.declared.axis.Axis.{Axis}
 use Rattle.pic_num.specs.Space.{Triple, Spot}
-use Rattle.pic_grid.specs.Block.{BlockValues, edge_at}
+use Rattle.pic_block.specs.Block.{BlockValues, edge_at}
 
 -- the zone of the box of n cells and its margin: one layer below the box and two above it on each axis
 abbrev pub margin_low : Spot

@@ -1,8 +1,8 @@
 -- The memory for the current of ways.
 use Rattle.std.specs.Prelude.{◌≡◌, ⊤, ℕ, pos, ◌*◌, replicate, Option, Some, None}
 use Rattle.pic_num.specs.Space.{Triple}
-use Rattle.pic_grid.specs.Block.{BlockValues}
-use Rattle.pic_grid.specs.Cells.{count_of}
+use Rattle.pic_block.specs.Block.{BlockValues}
+use Rattle.pic_block.specs.Cells.{count_of}
 use Rattle.pic_filter.specs.Smoothing.{filter_in}
 use Rattle.pic_ways.specs.declared.room.WayRoom.{WayRoom}
 use Rattle.pic_ways.specs.declared.room.Smoothing.{Smoothing}

@@ -5,14 +5,15 @@ ghost use Rattle.pic_num.specs.declared.axis.Axis.{Axis as AxisName};
 ghost use Rattle.pic_num.specs.Limits.{most_cells_of_axis};
 ghost use Rattle.pic_num.specs.Sizes.{IsAtMost};
 ghost use Rattle.pic_num.specs.Space.{Triple, Spot, triple, spot};
-ghost use Rattle.pic_grid.specs.Block.{AllAtMost};
-ghost use Rattle.pic_grid.specs.Cells.{IsWithin, count_of};
+ghost use Rattle.pic_block.specs.Block.{AllAtMost};
+ghost use Rattle.pic_block.specs.Cells.{IsWithin, count_of};
 ghost use Rattle.pic_grid.specs.Current.{sum_images, wrapped};
 ghost use Rattle.pic_grid.specs.Lattice.{EachAtMost, value_at};
 ghost use Rattle.pic_filter.specs.Smoothing.{most_smoothed};
 ghost use Rattle.pic_ways.specs.Margin.{margin_low, margin_size, edge_or_zero};
 
-use pic_grid::{Block, Cells, Lattice, Zone};
+use pic_block::{Block, Zone};
+use pic_grid::{Cells, Lattice};
 use pic_num::Axis;
 
 /// The zone of the box of cells and its margin.

@@ -5,8 +5,8 @@ ghost use Rattle.pic_num.specs.declared.axis.Axis.{Axis as AxisName};
 ghost use Rattle.pic_num.specs.Limits.{most_filter};
 ghost use Rattle.pic_num.specs.Sizes.{IsAtMost};
 ghost use Rattle.pic_num.specs.Space.{Triple};
-ghost use Rattle.pic_grid.specs.Block.{AllAtMost};
-ghost use Rattle.pic_grid.specs.Cells.{IsWithin, count_of};
+ghost use Rattle.pic_block.specs.Block.{AllAtMost};
+ghost use Rattle.pic_block.specs.Cells.{IsWithin, count_of};
 ghost use Rattle.pic_grid.specs.Current.{wrapped};
 ghost use Rattle.pic_grid.specs.Lattice.{EachAtMost, value_at};
 ghost use Rattle.pic_filter.specs.Smoothing.{filtered, filter_in, most_to_smooth};
@@ -14,8 +14,9 @@ ghost use Rattle.pic_ways.specs.Margin.{edge_or_zero};
 ghost use Rattle.pic_ways.specs.Room.{HasRoom, HasSome, HasSmoothing};
 
 use crate::margin::{fold, margin_of, take_off};
+use pic_block::{Block, Zone};
 use pic_filter::smooth;
-use pic_grid::{Block, Cells, Lattice, Zone};
+use pic_grid::{Cells, Lattice};
 use pic_num::NoMemory;
 use std::alloc::Global;
 

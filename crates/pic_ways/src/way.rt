@@ -2,12 +2,13 @@
 
 ghost use Rattle.std.specs.Prelude.{◌≡◌, ◌-◌, Some};
 ghost use Rattle.pic_num.specs.Limits.{most_flux_of, most_particles};
-ghost use Rattle.pic_grid.specs.Block.{IsShaped, AllAtMost};
+ghost use Rattle.pic_block.specs.Block.{IsShaped, AllAtMost};
 ghost use Rattle.pic_flux.specs.Adds.{Adds, GrowsBy};
 ghost use Rattle.pic_ways.specs.Way.{IsWay, way_flux};
 
+use pic_block::Block;
 use pic_flux::deposit_track;
-use pic_grid::{Block, Cells};
+use pic_grid::Cells;
 use pic_split::split;
 
 /// A way: a charge in whole units, the position in the box where it begins, and the move, at most the

@@ -3,7 +3,7 @@ use Rattle.std.proofs.Common.{◌≡◌, ℕ, ◌<◌, List, [], ◌++◌, lengt
 use Rattle.std.proofs.lemmas.List.{append-nil, drop_all, take_all}
 use mathlib.Core.Option.{some}
 use Rattle.atomic_table.specs.Table.{State, Final, Seen}
-use Rattle.pic_grid.specs.Block.{AllAtMost}
+use Rattle.pic_block.specs.Block.{AllAtMost}
 use Rattle.pic_grid.specs.Traces.{most_flux}
 use Rattle.pic_tile.specs.declared.parcel.Parcel.{Parcel}
 use Rattle.pic_tile.specs.CoreState.{IsOpening, IsSoundFrame, all_particles}

@@ -16,7 +16,7 @@ use Rattle.atomic_table.proofs.shared.Seat.TheSendSync as seats
 use Rattle.atomic_table.proofs.shared.Shared.TheSendSync as shared
 use Rattle.atomic_table.specs.contracts.shared.Seat as seat
 use Rattle.pic_chain.proofs.node.Node.TheLaws.TheKnot as knot
-use Rattle.pic_grid.proofs.block.Block.TheSendSync as block
+use Rattle.pic_block.proofs.block.Block.TheSendSync as block
 use Rattle.pic_grid.proofs.stop.Stop.TheSendSync as stop
 use Rattle.pic_tile.proofs.dir.Dir.TheSendSync as dir
 use Rattle.pic_tile.proofs.frame.Frame.TheSendSync as frame

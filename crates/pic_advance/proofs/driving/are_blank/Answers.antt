@@ -1,8 +1,8 @@
 use Rattle.std.proofs.Common.{pos, subst, ◌≡◌, ◌∙◌}
 use Rattle.std.proofs.lemmas.List.{get_or_default}
 use borrow.Author.Count.{below_more}
-use Rattle.pic_grid.specs.Block.{BlockValues}
-use Rattle.pic_grid.specs.Parts.{no_block}
+use Rattle.pic_block.specs.Block.{BlockValues}
+use Rattle.pic_block.specs.Block.{no_block}
 use Rattle.pic_advance.specs.Blocks.{block_in, IsMade}
 use Rattle.pic_advance.specs.Driven.{cleared}
 use Rattle.pic_advance.proofs.MadeLaws.{made_clear}

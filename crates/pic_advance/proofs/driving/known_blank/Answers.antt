@@ -1,6 +1,6 @@
 use Rattle.std.proofs.Common.{List, pos, refl, subst}
-use Rattle.pic_grid.specs.Block.{BlockValues}
-use Rattle.pic_grid.specs.Cells.{IsCells}
+use Rattle.pic_block.specs.Block.{BlockValues}
+use Rattle.pic_block.specs.Cells.{IsCells}
 use Rattle.pic_advance.specs.Blocks.{EachBlock, IsMade}
 use Rattle.pic_advance.proofs.TakenLaws.{HasBlocks, has_blocks, made_is}
 use Rattle.pic_advance.proofs.driving.known_blank.Goals as goal

@@ -2,9 +2,9 @@ use Rattle.std.proofs.Common.{List, pos, refl, sym, ◌∙◌, ap, subst}
 use Rattle.std.specs.Prelude.{⊤}
 use Rattle.std.proofs.lemmas.List.Elements.{All-from_get_or}
 use Rattle.pic_num.specs.Space.{triple}
-use Rattle.pic_grid.specs.Block.{BlockValues}
-use Rattle.pic_grid.specs.Cells.{IsCells}
-use Rattle.pic_grid.specs.Parts.{no_block, ArePartsOf, joined}
+use Rattle.pic_block.specs.Block.{BlockValues, no_block}
+use Rattle.pic_block.specs.Cells.{IsCells}
+use Rattle.pic_grid.specs.Parts.{ArePartsOf, joined}
 use Rattle.pic_advance.specs.Blocks.{EachBlock, IsMade}
 use Rattle.pic_advance.proofs.TakenLaws.{HasBlocks, has_blocks, given_back, made_zones, made_is}
 use Rattle.pic_advance.proofs.MadeLaws.{making_shares}

@@ -1,7 +1,7 @@
 use Rattle.std.proofs.Common.{◌≡◌, List, All, sym, ◌∙◌, ap, subst}
 use Rattle.pic_num.specs.Space.{triple}
-use Rattle.pic_grid.specs.Block.{BlockValues}
-use Rattle.pic_grid.specs.Cells.{IsCells}
+use Rattle.pic_block.specs.Block.{BlockValues}
+use Rattle.pic_block.specs.Cells.{IsCells}
 use Rattle.pic_grid.specs.Lattice.{EachAtMost, value_at}
 use Rattle.pic_filter.specs.Smoothing.{smoothed_each, most_to_smooth}
 use Rattle.pic_grid.specs.Parts.{ArePartsOf, joined}

@@ -1,8 +1,8 @@
 use Rattle.std.proofs.Common.{List, All, sym, ◌∙◌, ap, subst}
 use Rattle.pic_num.specs.Limits.{most_value}
 use Rattle.pic_num.specs.Space.{triple}
-use Rattle.pic_grid.specs.Block.{BlockValues}
-use Rattle.pic_grid.specs.Cells.{IsCells}
+use Rattle.pic_block.specs.Block.{BlockValues}
+use Rattle.pic_block.specs.Cells.{IsCells}
 use Rattle.pic_grid.specs.Gather.{force_of}
 use Rattle.pic_grid.specs.Lattice.{EachAtMost, value_at}
 use Rattle.pic_grid.specs.Parts.{ArePartsOf, joined}

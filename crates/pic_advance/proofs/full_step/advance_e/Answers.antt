@@ -1,8 +1,8 @@
 use Rattle.std.proofs.Common.{◌≡◌, List, All, sym, ◌∙◌, ap, subst}
 use Rattle.std.specs.Option.{option_copied}
 use Rattle.pic_num.specs.Space.{triple}
-use Rattle.pic_grid.specs.Block.{BlockValues}
-use Rattle.pic_grid.specs.Cells.{IsCells}
+use Rattle.pic_block.specs.Block.{BlockValues}
+use Rattle.pic_block.specs.Cells.{IsCells}
 use Rattle.pic_grid.specs.Parts.{ArePartsOf, joined}
 use Rattle.pic_advance.specs.Blocks.{EachBlock}
 use Rattle.pic_advance.specs.Driven.{CanBeDriven, IsDriven, current_in, driven_stop, full_all}

@@ -2,8 +2,8 @@ use Rattle.std.proofs.Common.{◌≡◌, ◌<◌, length, get_or, sym, ◌∙◌
 use Rattle.std.proofs.lemmas.List.{get_or_default}
 use Rattle.std.proofs.lemmas.List.Elements.{All-get_or}
 use Rattle.std.specs.Option.{option_copied}
-use Rattle.pic_grid.specs.Block.{BlockValues}
-use Rattle.pic_grid.specs.Parts.{no_block}
+use Rattle.pic_block.specs.Block.{BlockValues}
+use Rattle.pic_block.specs.Block.{no_block}
 use Rattle.pic_field.specs.FieldPhases.{stop_of_full, no_drive}
 use Rattle.pic_advance.specs.Blocks.{block_in, earlier}
 use Rattle.pic_advance.specs.Driven.{CanBeDriven, IsDriven, current_in}

@@ -1,8 +1,8 @@
 use Rattle.std.proofs.Common.{◌≡◌, None, ◌++◌, List, length, take, drop, refl, sym, ◌∙◌, ap, subst}
 use Rattle.pic_num.specs.Space.{Triple, triple}
+use Rattle.pic_block.specs.Block.{BlockValues}
+use Rattle.pic_block.specs.Cells.{IsCells}
 use Rattle.pic_grid.specs.declared.stop.Phase.TheVariants.{Half1}
-use Rattle.pic_grid.specs.Block.{BlockValues}
-use Rattle.pic_grid.specs.Cells.{IsCells}
 use Rattle.pic_grid.specs.Gather.{force_of}
 use Rattle.pic_grid.specs.Lattice.{IsParts}
 use Rattle.pic_grid.specs.Parts.{ArePartsOf, joined, origin}

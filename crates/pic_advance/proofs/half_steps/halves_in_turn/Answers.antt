@@ -1,6 +1,6 @@
 use Rattle.std.proofs.Common.{◌<◌, length, arith}
 use Rattle.std.proofs.lemmas.List.{get_or_default}
-use Rattle.pic_grid.specs.Parts.{no_block}
+use Rattle.pic_block.specs.Block.{no_block}
 use Rattle.pic_advance.specs.Halves.{CanHalve, AreHalves}
 use Rattle.pic_advance.proofs.HalvesLaws.{halving_none, halving_more, halving_all}
 use Rattle.pic_advance.proofs.PairLaws.{can_next}

@@ -19,7 +19,7 @@ use Rattle.pic_num.specs.Sizes.{IsAtMost}
 use Rattle.pic_num.specs.Space.{Triple, triple, spot, along}
 use Rattle.pic_num.specs.Velocity.{too_fast, IsKeptVelocity}
 use Rattle.pic_num.proofs.RoundingLaws.{rounded-unique, power_above_zero}
-use Rattle.pic_grid.specs.Cells.{Grid, count_of, place_of}
+use Rattle.pic_block.specs.Cells.{Grid, count_of, place_of}
 use Rattle.pic_grid.specs.Differences.{div_e, down}
 use Rattle.pic_grid.specs.Hat.{weight}
 use Rattle.pic_grid.specs.declared.loops.Loop.{Loop}

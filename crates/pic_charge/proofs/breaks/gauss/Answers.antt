@@ -1,10 +1,10 @@
 use Rattle.std.proofs.Common.{◌≡◌, ◌<◌, None, ap, sym, ◌∙◌, subst, arith}
 use borrow.Author.Count.{below_more}
 use Rattle.pic_num.specs.Space.{triple}
+use Rattle.pic_block.specs.Cells.{IsWithin, cell_of, count_of}
+use Rattle.pic_block.proofs.PlaceLaws.{first_place}
 use Rattle.pic_grid.specs.Differences.{div_e}
 use Rattle.pic_grid.specs.Lattice.{value_at, node_at}
-use Rattle.pic_grid.specs.Cells.{IsWithin, cell_of, count_of}
-use Rattle.pic_grid.proofs.PlaceLaws.{first_place}
 use Rattle.pic_charge.specs.Gauss.{difference_at, first_break}
 use Rattle.pic_charge.proofs.BreakLaws.{first_break_at, first_break_nowhere, none_exactly, least_where, none_unless}
 use Rattle.pic_charge.proofs.NodeWalkLaws.{node_within, node_is, node_behind}

@@ -1,9 +1,9 @@
 use Rattle.std.proofs.Common.{◌≡◌, ℕ, ◌<◌, None}
+use Rattle.pic_block.specs.Cells.{cell_of}
+use Rattle.pic_block.proofs.PlaceLaws.{IsPlace}
 use Rattle.pic_grid.specs.Differences.{div_e}
 use Rattle.pic_grid.specs.Lattice.{value_at, node_at}
-use Rattle.pic_grid.specs.Cells.{cell_of}
 use Rattle.pic_num.specs.Space.{triple}
-use Rattle.pic_grid.proofs.PlaceLaws.{IsPlace}
 use Rattle.pic_charge.specs.Gauss.{difference_at}
 use Rattle.pic_charge.proofs.breaks.gauss.Given as goal
 

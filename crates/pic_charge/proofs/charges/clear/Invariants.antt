@@ -1,6 +1,6 @@
 use Rattle.std.proofs.Common.{pos}
 use Rattle.pic_num.specs.Space.{triple}
-use Rattle.pic_grid.proofs.PlaceLaws.{IsPlace}
+use Rattle.pic_block.proofs.PlaceLaws.{IsPlace}
 use Rattle.pic_charge.proofs.NodeLaws.{IsWritten}
 use Rattle.pic_charge.proofs.charges.clear.Given as goal
 

@@ -2,7 +2,7 @@ use Rattle.std.proofs.Common.{◌≡◌, ℤ, [], ◌∷◌, ◌^◌, ◌+ℤ◌
 use Rattle.pic_num.proofs.SizeLaws.{codes, code_is}
 use Rattle.pic_num.specs.Sizes.{IsAtMost}
 use Rattle.pic_num.specs.Space.{Triple, triple}
-use Rattle.pic_grid.specs.Cells.{IsWithin}
+use Rattle.pic_block.specs.Cells.{IsWithin}
 use Rattle.pic_charge.proofs.NodeLaws.{node_added}
 use Rattle.pic_charge.proofs.SpreadLaws.{kept_is}
 use Rattle.pic_charge.proofs.spread.add.Goals as goal

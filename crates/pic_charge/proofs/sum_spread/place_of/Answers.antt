@@ -1,5 +1,5 @@
 use Rattle.std.proofs.Common.{arith}
-use Rattle.pic_grid.specs.Cells.{index_of}
+use Rattle.pic_block.specs.Cells.{index_of}
 use Rattle.pic_charge.proofs.sum_spread.place_of.Goals as goal
 
 pub returns-clause-value : goal.returns-clause-value

@@ -1,9 +1,9 @@
 use Rattle.std.proofs.Common.{◌<◌, sym, ◌∙◌, subst, arith}
 use Rattle.pic_num.specs.Space.{triple}
+use Rattle.pic_block.specs.Cells.{IsWithin, count_of}
+use Rattle.pic_block.proofs.PlaceLaws.{first_place}
 use Rattle.pic_grid.specs.Lattice.{node_at}
 use Rattle.pic_charge.specs.Sums.{nodes_in}
-use Rattle.pic_grid.specs.Cells.{IsWithin, count_of}
-use Rattle.pic_grid.proofs.PlaceLaws.{first_place}
 use Rattle.pic_charge.proofs.NodeLaws.{written_none, written_more, written_all}
 use Rattle.pic_charge.proofs.NodeWalkLaws.{node_within, node_number, node_behind}
 use Rattle.pic_charge.proofs.SumLaws.{sum_written}

@@ -1,6 +1,6 @@
 use Rattle.pic_num.specs.Space.{triple}
+use Rattle.pic_block.proofs.PlaceLaws.{IsPlace}
 use Rattle.pic_grid.specs.Lattice.{node_at}
-use Rattle.pic_grid.proofs.PlaceLaws.{IsPlace}
 use Rattle.pic_charge.specs.Sums.{nodes_in}
 use Rattle.pic_charge.proofs.NodeLaws.{IsWritten}
 use Rattle.pic_charge.proofs.sums.write.Given as goal

@@ -7,7 +7,7 @@ use mir.Val.{to_z, of_z}
 use Rattle.pic_num.specs.Sizes.{IsAtMost}
 use Rattle.pic_num.specs.Space.{triple}
 use Rattle.pic_num.proofs.SizeLaws.{codes, code_fits, code_is}
-use Rattle.pic_grid.specs.Cells.{IsWithin}
+use Rattle.pic_block.specs.Cells.{IsWithin}
 use Rattle.pic_grid.specs.Sums.{sum_over}
 use Rattle.pic_walk.specs.Rows.{no_row}
 use Rattle.pic_deck.proofs.InitialLaws.{row_step, value_size, value_64, fits_64}

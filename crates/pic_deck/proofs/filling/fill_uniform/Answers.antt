@@ -3,7 +3,7 @@ use Rattle.std.proofs.lemmas.List.{length-set}
 use mir.Syntax.{w64, w128}
 use mir.Val.{SFits, to_z, of_z}
 use Rattle.pic_num.specs.Space.{spot}
-use Rattle.pic_grid.proofs.CellLaws.{place_of_below}
+use Rattle.pic_block.proofs.CellLaws.{place_of_below}
 use Rattle.pic_walk.proofs.LimitLaws.{widened}
 use Rattle.pic_deck.specs.Initial.{IsUniform}
 use Rattle.pic_deck.proofs.InitialLaws.{filled_step}

@@ -1,8 +1,8 @@
 use Rattle.std.proofs.Common.{◌≡◌, ◌*◌, ◌<◌, length}
 use Rattle.pic_num.specs.declared.axis.Axis.{Axis}
 use Rattle.pic_num.specs.Space.{Triple, spot}
+use Rattle.pic_block.specs.Cells.{IsWithin, count_of, place_of}
 use Rattle.pic_grid.specs.Lattice.{value_at}
-use Rattle.pic_grid.specs.Cells.{IsWithin, count_of, place_of}
 use Rattle.pic_deck.specs.Initial.{IsUniform}
 use Rattle.pic_deck.proofs.filling.fill_uniform.Given as goal
 

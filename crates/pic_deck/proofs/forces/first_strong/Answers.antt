@@ -3,8 +3,8 @@ use Rattle.std.proofs.lemmas.Int.{to_z-of_z}
 use mir.Syntax.{w128}
 use mir.Val.{SFits}
 use Rattle.pic_num.specs.First.{first_of}
+use Rattle.pic_block.specs.Cells.{count_of}
 use Rattle.pic_grid.specs.Lattice.{value_at}
-use Rattle.pic_grid.specs.Cells.{count_of}
 use Rattle.pic_deck.specs.Initial.{strong}
 use Rattle.pic_deck.proofs.ForceLaws.{strong_at-place, none_more, some_here, none_at_all}
 use Rattle.pic_deck.proofs.forces.first_strong.Goals as goal

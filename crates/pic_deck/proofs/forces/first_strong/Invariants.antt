@@ -1,8 +1,8 @@
 use Rattle.std.proofs.Common.{◌≡◌, ◌*◌, None}
 use Rattle.std.specs.List.{range_with_len}
 use Rattle.pic_num.specs.First.{first_of}
+use Rattle.pic_block.specs.Cells.{count_of}
 use Rattle.pic_grid.specs.Lattice.{value_at}
-use Rattle.pic_grid.specs.Cells.{count_of}
 use Rattle.pic_deck.proofs.ForceLaws.{strong_at}
 use Rattle.pic_deck.proofs.forces.first_strong.Given as goal
 

@@ -1,6 +1,6 @@
 use Rattle.std.proofs.Common.{Ok, ap, sym, ◌∙◌}
-use Rattle.pic_grid.specs.Cells.{axis_of}
-use Rattle.pic_grid.proofs.CellLaws.{axis_of-number}
+use Rattle.pic_block.specs.Cells.{axis_of}
+use Rattle.pic_block.proofs.CellLaws.{axis_of-number}
 use Rattle.pic_walk.proofs.WalkLaws.{goes_on, exits}
 use Rattle.pic_devices.specs.Drive.{axis}
 use Rattle.pic_devices.proofs.drive_reader.read_axis.Goals as goal

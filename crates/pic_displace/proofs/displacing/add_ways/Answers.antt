@@ -1,5 +1,5 @@
 use Rattle.std.proofs.Common.{◌+◌, sym, ◌∙◌, subst}
-use Rattle.pic_grid.specs.Block.{BlockValues}
+use Rattle.pic_block.specs.Block.{BlockValues}
 use Rattle.pic_displace.specs.Displace.{way_of}
 use Rattle.pic_displace.proofs.AddedLaws.{HasAdded, none_added, one_added, still_added}
 use Rattle.pic_displace.proofs.displacing.add_ways.Goals.{in-None, in-Some}

@@ -2,10 +2,10 @@ use Rattle.std.proofs.Common.{◌≤◌, List, sym, ap, subst}
 use Rattle.std.proofs.Math.IntN.{ℤ}
 use Rattle.pic_num.specs.Limits.{most_particles}
 use Rattle.pic_num.specs.Sizes.{IsAtMost}
-use Rattle.pic_grid.specs.Block.{BlockValues, AllAtMost}
-use Rattle.pic_grid.specs.Cells.{Grid}
+use Rattle.pic_block.specs.Block.{BlockValues, AllAtMost}
+use Rattle.pic_block.specs.Cells.{Grid}
+use Rattle.pic_block.proofs.ShapeLaws.{zeros_at_most}
 use Rattle.pic_grid.specs.Current.{wrapped}
-use Rattle.pic_grid.proofs.ShapeLaws.{zeros_at_most}
 use Rattle.pic_filter.specs.Smoothing.{filter_in, most_to_smooth}
 use Rattle.pic_deck.specs.declared.species.Species.{Species}
 use Rattle.pic_deck.specs.Species.{particles_of}

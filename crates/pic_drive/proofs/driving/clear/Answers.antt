@@ -1,7 +1,7 @@
 use Rattle.std.proofs.Common.{◌≡◌, ◌+◌, ◌*◌, ◌<◌, refl, ◌∙◌, ap, subst, arith}
 use Rattle.pic_num.specs.Space.{Triple, triple}
-use Rattle.pic_grid.specs.Cells.{IsWithin, count_of, place_of}
-use Rattle.pic_grid.proofs.PlaceLaws.{first_place, next_place}
+use Rattle.pic_block.specs.Cells.{IsWithin, count_of, place_of}
+use Rattle.pic_block.proofs.PlaceLaws.{first_place, next_place}
 use Rattle.pic_drive.proofs.PlusLaws.{none_more, none_all}
 use Rattle.pic_drive.proofs.driving.clear.Goals as goal
 

@@ -1,5 +1,5 @@
 use Rattle.pic_num.specs.Space.{triple}
-use Rattle.pic_grid.proofs.PlaceLaws.{IsPlace}
+use Rattle.pic_block.proofs.PlaceLaws.{IsPlace}
 use Rattle.pic_drive.proofs.PlusLaws.{IsLike, AreNone}
 use Rattle.pic_drive.proofs.driving.clear.Given as goal
 

@@ -6,8 +6,8 @@ use Rattle.pic_num.specs.Multiplier.{Multiplier}
 use Rattle.pic_num.specs.Rounding.{scaled}
 use Rattle.pic_num.specs.Sizes.{IsAtMost}
 use Rattle.pic_num.specs.Space.{triple}
-use Rattle.pic_grid.specs.Cells.{count_of}
-use Rattle.pic_grid.proofs.PlaceLaws.{first_place}
+use Rattle.pic_block.specs.Cells.{count_of}
+use Rattle.pic_block.proofs.PlaceLaws.{first_place}
 use Rattle.pic_energy.specs.Energies.{square_of, square_sum}
 use Rattle.pic_energy.proofs.WalkLaws.{IsRun, run_is, run_fits, run_all, run_behind}
 use Rattle.pic_energy.proofs.summing.squares.Goals as goal

@@ -1,6 +1,6 @@
 use Rattle.std.proofs.Common.{◌≡◌, ◌-◌, ◌*◌, ◌^◌, ◌≤◌, length, take}
 use Rattle.pic_num.specs.Space.{triple}
-use Rattle.pic_grid.proofs.PlaceLaws.{IsPlace}
+use Rattle.pic_block.proofs.PlaceLaws.{IsPlace}
 use Rattle.pic_energy.specs.Energies.{square_sum}
 use Rattle.pic_energy.proofs.summing.squares.Given as goal
 

@@ -3,11 +3,11 @@ use Rattle.pic_num.specs.Push.{unless}
 use Rattle.pic_num.specs.Space.{Triple}
 use Rattle.pic_num.specs.declared.axis.Axis.{Axis}
 use Rattle.pic_num.proofs.FirstLaws.{unless_ok}
+use Rattle.pic_block.specs.Block.{BlockValues, inner_at, outer_of}
+use Rattle.pic_block.specs.Cells.{IsWithin, place_of}
+use Rattle.pic_block.specs.Lending.{with_values}
 use Rattle.pic_grid.specs.declared.stop.Phase.TheVariants.{Half1, Half2}
 use Rattle.pic_grid.specs.declared.stop.Stop.{Stop}
-use Rattle.pic_grid.specs.Block.{BlockValues, inner_at, outer_of}
-use Rattle.pic_grid.specs.Cells.{IsWithin, place_of}
-use Rattle.pic_grid.specs.Lending.{with_values}
 use Rattle.pic_field.specs.FieldPhases.{lowest, least_fault, half_of, twice_in, stop_of_half, stop_of_second}
 use Rattle.pic_field.specs.Rows.{row_at}
 use Rattle.pic_field.proofs.HalvesLaws.{given, given_as_lent, twice_halved}

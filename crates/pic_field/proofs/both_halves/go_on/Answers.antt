@@ -1,9 +1,9 @@
 use Rattle.std.proofs.Common.{◌≡◌, ◌*◌, ℕ, length, refl, sym, ◌∙◌, ap, subst}
 use Rattle.pic_num.specs.Limits.{most_value}
+use Rattle.pic_block.specs.Block.{IsAmongCells}
+use Rattle.pic_block.specs.Cells.{count_of}
+use Rattle.pic_block.specs.Lending.{with_values}
 use Rattle.pic_grid.specs.declared.stop.Phase.TheVariants.{Half2}
-use Rattle.pic_grid.specs.Block.{IsAmongCells}
-use Rattle.pic_grid.specs.Cells.{count_of}
-use Rattle.pic_grid.specs.Lending.{with_values}
 use Rattle.pic_field.specs.Rows.{IsSmallRow}
 use Rattle.pic_field.proofs.CalmLaws.{calm_none, new_stop}
 use Rattle.pic_field.proofs.FaultLaws.{stop_of}

@@ -1,5 +1,5 @@
 use Rattle.std.proofs.Common.{pos, sym, ◌∙◌, arith}
-use Rattle.pic_grid.specs.Block.{inner_at, outer_of}
+use Rattle.pic_block.specs.Block.{inner_at, outer_of}
 use Rattle.pic_field.specs.FieldPhases.{full_of, full_in, no_current, no_drive}
 use Rattle.pic_field.proofs.CurlLaws.{full_is}
 use Rattle.pic_field.proofs.ZoneLaws.{edge_at-outer}

@@ -2,9 +2,9 @@ use Rattle.std.proofs.Common.{◌-ℤ◌, ℤ, Option, sym, ◌∙◌, ap, subst
 use Rattle.pic_num.specs.Push.{unless}
 use Rattle.pic_num.specs.Sizes.{IsAtMost}
 use Rattle.pic_num.specs.Space.{Triple}
+use Rattle.pic_block.specs.Block.{inner_at, outer_of}
+use Rattle.pic_block.specs.Cells.{IsWithin}
 use Rattle.pic_grid.specs.declared.stop.Stop.{Stop}
-use Rattle.pic_grid.specs.Block.{inner_at, outer_of}
-use Rattle.pic_grid.specs.Cells.{IsWithin}
 use Rattle.pic_grid.specs.Lattice.{value_at}
 use Rattle.pic_field.specs.FieldPhases.{no_drive, most_lessened, most_raised}
 use Rattle.pic_field.specs.Lines.{OnStrip}

@@ -4,11 +4,11 @@ use mir.Syntax.{w128}
 use mir.Val.{SFits}
 use Rattle.pic_num.specs.Push.{unless}
 use Rattle.pic_num.specs.Space.{triple, unwrapped}
+use Rattle.pic_block.specs.Cells.{count_of}
+use Rattle.pic_block.specs.Block.{edge_at}
+use Rattle.pic_block.proofs.PlaceLaws.{first_place, next_place}
 use Rattle.pic_grid.specs.declared.stop.Stop.{Stop}
-use Rattle.pic_grid.specs.Cells.{count_of}
-use Rattle.pic_grid.specs.Block.{edge_at}
 use Rattle.pic_field.specs.FieldPhases.{fault_of}
-use Rattle.pic_grid.proofs.PlaceLaws.{first_place, next_place}
 use Rattle.pic_field.proofs.FaultLaws.{IsHere, is_here, fault_below-none, fault_below-more, fault_below-all}
 use Rattle.pic_field.proofs.faults.stop_in.Goals as goal
 use Rattle.pic_field.proofs.faults.stop_in.Goals.{After-cell_in-cell}

@@ -1,8 +1,8 @@
 use Rattle.std.proofs.Common.{◌≡◌}
 use Rattle.pic_num.specs.Space.{triple, unwrapped}
-use Rattle.pic_grid.specs.Block.{edge_at}
+use Rattle.pic_block.specs.Block.{edge_at}
 use Rattle.pic_field.proofs.FaultLaws.{fault_below}
-use Rattle.pic_grid.proofs.PlaceLaws.{IsPlace}
+use Rattle.pic_block.proofs.PlaceLaws.{IsPlace}
 use Rattle.pic_field.proofs.faults.stop_in.Given as goal
 
 -- the walk stands at the place of its number, and has found the least stop so far

@@ -1,7 +1,7 @@
 use Rattle.std.proofs.Common.{sym, ◌∙◌, ap, arith}
-use Rattle.pic_grid.specs.Block.{inner_at, outer_of}
+use Rattle.pic_block.specs.Block.{inner_at, outer_of}
 use Rattle.pic_num.specs.Limits.{most_value}
-use Rattle.pic_grid.proofs.BlockLaws.{all_at_most_more}
+use Rattle.pic_block.proofs.BlockLaws.{all_at_most_more}
 use Rattle.pic_field.specs.FieldPhases.{half_of, half_in, most_lessened}
 use Rattle.pic_field.proofs.CurlLaws.{half_is}
 use Rattle.pic_field.proofs.ZoneLaws.{edge_at-outer}

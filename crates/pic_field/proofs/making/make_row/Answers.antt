@@ -1,6 +1,6 @@
 use Rattle.std.proofs.Common.{◌≡◌, ◌<◌, ◌+◌, ◌-ℤ◌, sym, ◌∙◌, ap, subst, unsigned_abs, arith}
 use Rattle.pic_num.specs.Space.{Triple}
-use Rattle.pic_grid.specs.Block.{outer_of}
+use Rattle.pic_block.specs.Block.{outer_of}
 use Rattle.pic_grid.specs.Lattice.{value_at}
 use Rattle.pic_field.specs.FieldPhases.{most_raised}
 use Rattle.pic_field.specs.Lines.{OnRow, line_start}

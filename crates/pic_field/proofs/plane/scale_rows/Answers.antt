@@ -5,11 +5,11 @@ use Rattle.pic_num.specs.declared.axis.Axis.{Axis}
 use Rattle.pic_num.specs.declared.axis.Axis.TheVariants.{X, Y, Z}
 use Rattle.pic_num.specs.Rounding.{scaled}
 use Rattle.pic_num.specs.Space.{Triple}
-use Rattle.pic_grid.specs.Cells.{IsWithin}
+use Rattle.pic_block.specs.Cells.{IsWithin}
+use Rattle.pic_block.proofs.RowLaws.{part_long}
 use Rattle.pic_grid.specs.Lattice.{value_at}
 use Rattle.pic_field.specs.Rows.{most_row, read_by, row_at, start_cell, IsSmallRow, IsScaledRow}
 use Rattle.pic_grid.proofs.CopyLaws.{filled_long}
-use Rattle.pic_grid.proofs.RowLaws.{part_long}
 use Rattle.pic_field.proofs.RowLaws.{row_none, round_on, run_small, more_scaled}
 use Rattle.pic_field.proofs.plane.scale_rows.Goals as goal
 use Rattle.pic_field.proofs.plane.scale_rows.Goals.{After-count_if-more_z}

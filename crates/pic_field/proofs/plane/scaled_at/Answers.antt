@@ -4,7 +4,7 @@ use Rattle.pic_num.specs.Rounding.{scaled}
 use Rattle.pic_num.specs.Sizes.{IsAtMost}
 use Rattle.pic_num.specs.Space.{Triple}
 use Rattle.pic_num.proofs.SizeLaws.{codes, code_is}
-use Rattle.pic_grid.specs.Cells.{IsWithin}
+use Rattle.pic_block.specs.Cells.{IsWithin}
 use Rattle.pic_grid.specs.Lattice.{value_at}
 use Rattle.pic_field.specs.Rows.{row_at}
 use Rattle.pic_field.proofs.plane.scaled_at.Goals as goal

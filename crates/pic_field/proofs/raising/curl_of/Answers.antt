@@ -5,7 +5,7 @@ use Rattle.pic_num.specs.declared.axis.Axis.{Axis}
 use Rattle.pic_num.specs.Sizes.{IsAtMost}
 use Rattle.pic_num.specs.Space.{Triple, triple, next_axis}
 use Rattle.pic_num.proofs.SizeLaws.{codes, code_fits, code_is}
-use Rattle.pic_grid.specs.Cells.{IsWithin}
+use Rattle.pic_block.specs.Cells.{IsWithin}
 use Rattle.pic_grid.specs.Differences.{down}
 use Rattle.pic_grid.specs.Lattice.{value_at}
 use Rattle.pic_field.proofs.raising.curl_of.Goals as goal

@@ -4,11 +4,11 @@ use mir.Val.{SFits}
 use Rattle.pic_num.specs.Sizes.{IsAtMost}
 use Rattle.pic_num.specs.Space.{Triple, Spot, triple, spot, unwrapped}
 use Rattle.pic_num.proofs.SizeLaws.{codes, code_fits, code_is}
-use Rattle.pic_grid.specs.Block.{InZone, inner_at, edge_at, outer_of}
-use Rattle.pic_grid.specs.Cells.{IsWithin, count_of, place_of}
+use Rattle.pic_block.specs.Block.{InZone, inner_at, edge_at, outer_of}
+use Rattle.pic_block.specs.Cells.{IsWithin, count_of, place_of}
+use Rattle.pic_block.proofs.PlaceLaws.{first_place, next_place}
 use Rattle.pic_grid.specs.Differences.{curl_b}
 use Rattle.pic_grid.specs.Lattice.{value_at}
-use Rattle.pic_grid.proofs.PlaceLaws.{first_place, next_place}
 use Rattle.pic_field.specs.Lines.{OnStrip}
 use Rattle.pic_field.specs.FieldPhases.{most_lessened}
 use Rattle.pic_field.proofs.CalmLaws.{all_small}

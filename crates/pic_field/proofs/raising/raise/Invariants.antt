@@ -1,8 +1,8 @@
 use Rattle.std.proofs.Common.{◌≡◌, ◌*◌, length}
 use Rattle.pic_num.specs.Space.{triple}
-use Rattle.pic_grid.specs.Cells.{count_of}
+use Rattle.pic_block.specs.Cells.{count_of}
+use Rattle.pic_block.proofs.PlaceLaws.{IsPlace}
 use Rattle.pic_grid.specs.Lattice.{value_at}
-use Rattle.pic_grid.proofs.PlaceLaws.{IsPlace}
 use Rattle.pic_field.specs.Lines.{Changed}
 use Rattle.pic_field.proofs.RaisedLaws.{BelowNumber, raised}
 use Rattle.pic_field.proofs.raising.raise.Given as goal

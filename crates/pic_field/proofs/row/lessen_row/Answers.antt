@@ -1,8 +1,8 @@
 use Rattle.std.proofs.Common.{◌≡◌, ◌+◌, ◌-◌, ◌<◌, ◌≤◌, ◌-ℤ◌, ℕ, ℤ, pos, length, take, drop, ◌∙◌, ap, arith}
 use Rattle.std.proofs.lemmas.List.{get_or-take}
+use Rattle.pic_block.proofs.RowLaws.{part_long}
 use Rattle.pic_grid.specs.Lattice.{value_at}
 use Rattle.pic_grid.proofs.CopyLaws.{filled_long}
-use Rattle.pic_grid.proofs.RowLaws.{part_long}
 use Rattle.pic_field.specs.Rows.{row_at, start_cell}
 use Rattle.pic_field.proofs.LessenedLaws.{run_values, run_rest}
 use Rattle.pic_field.proofs.row.lessen_row.Goals as goal

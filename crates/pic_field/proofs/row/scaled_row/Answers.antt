@@ -2,11 +2,11 @@ use Rattle.std.proofs.Common.{◌≡◌, ◌+◌, ◌%◌, ◌^◌, ◌<◌, ◌
 use Rattle.std.proofs.Math.Nat.{mod-eq_of_lt}
 use Rattle.std.proofs.lemmas.List.{length-take-le, get_or-take}
 use Rattle.pic_num.specs.Space.{Triple}
-use Rattle.pic_grid.specs.Cells.{IsWithin}
+use Rattle.pic_block.specs.Cells.{IsWithin}
+use Rattle.pic_block.proofs.RowLaws.{part_long}
 use Rattle.pic_grid.specs.Lattice.{value_at}
 use Rattle.pic_field.specs.Rows.{most_row, read_by, row_at, start_cell, IsSmallRow}
 use Rattle.pic_grid.proofs.CopyLaws.{filled_long}
-use Rattle.pic_grid.proofs.RowLaws.{part_long}
 use Rattle.pic_field.proofs.RowLaws.{row_none, round_on, run_small, more_scaled}
 use Rattle.pic_field.proofs.row.scaled_row.Goals as goal
 use Rattle.pic_field.proofs.row.scaled_row.Goals.{After-min-more}

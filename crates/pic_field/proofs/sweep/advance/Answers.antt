@@ -1,8 +1,8 @@
 use Rattle.std.proofs.Common.{Option, sym, ◌∙◌, ap}
 use Rattle.pic_num.specs.Push.{unless}
 use Rattle.pic_num.specs.Space.{unwrapped}
+use Rattle.pic_block.specs.Block.{edge_at}
 use Rattle.pic_grid.specs.declared.stop.Stop.{Stop}
-use Rattle.pic_grid.specs.Block.{edge_at}
 use Rattle.pic_field.specs.FieldPhases.{most_lessened}
 use Rattle.pic_field.specs.Lines.{OnStrip}
 use Rattle.pic_field.specs.Sweeps.{sweep_cells}

@@ -2,8 +2,8 @@ use Rattle.std.proofs.Common.{◌≡◌, ◌+◌, ◌-◌, ◌<◌, ◌≤◌, B
 use Rattle.pic_num.specs.declared.axis.Axis.{Axis}
 use Rattle.pic_num.specs.declared.axis.Axis.TheVariants.{X, Y, Z}
 use Rattle.pic_num.specs.Space.{Triple}
-use Rattle.pic_grid.specs.Cells.{IsWithin}
-use Rattle.pic_grid.specs.Block.{inner_at}
+use Rattle.pic_block.specs.Cells.{IsWithin}
+use Rattle.pic_block.specs.Block.{inner_at}
 use Rattle.pic_field.specs.declared.row.CurlRows.{CurlRows}
 use Rattle.pic_field.specs.Beside.{first_index, layer_beside, row_room}
 use Rattle.pic_field.specs.Lines.{OnRow}

@@ -1,6 +1,6 @@
 use Rattle.std.proofs.Common.{◌≡◌, ◌+◌, ◌-◌, ◌<◌, ℕ, sym, ◌∙◌, ap, subst, arith}
 use Rattle.pic_num.specs.Space.{Triple, Spot, triple}
-use Rattle.pic_grid.specs.Cells.{IsWithin}
+use Rattle.pic_block.specs.Cells.{IsWithin}
 use Rattle.pic_field.specs.Beside.{swept_layer}
 use Rattle.pic_field.specs.FieldPhases.{most_lessened}
 use Rattle.pic_field.specs.Lines.{OnLines, OnLayers, OnStrip, Changed, AreSmall}

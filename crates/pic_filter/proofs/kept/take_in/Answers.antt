@@ -3,7 +3,7 @@ use Rattle.std.proofs.Math.Nat.{mod-add-mod, mod-eq_of_lt}
 use Rattle.pic_num.specs.declared.axis.Axis.TheVariants.{X, Z}
 use Rattle.pic_num.specs.Sizes.{IsAtMost}
 use Rattle.pic_num.specs.Space.{Triple, triple}
-use Rattle.pic_grid.specs.Cells.{IsWithin}
+use Rattle.pic_block.specs.Cells.{IsWithin}
 use Rattle.pic_grid.specs.Differences.{down}
 use Rattle.pic_grid.specs.Lattice.{value_at}
 use Rattle.pic_filter.specs.Kept.{kept_at, taken, row_cell}

@@ -1,6 +1,6 @@
 use Rattle.std.proofs.Common.{length, ◌∙◌, ap}
 use Rattle.pic_num.specs.Space.{Spot, triple}
-use Rattle.pic_grid.specs.Block.{outer_of}
+use Rattle.pic_block.specs.Block.{outer_of}
 use Rattle.pic_grid.specs.Parts.{origin}
 use Rattle.pic_filter.proofs.BlockLaws.{block_smoothed, block_small}
 use Rattle.pic_filter.proofs.smoothing.smooth.Goals as goal

@@ -3,12 +3,12 @@ use Rattle.std.proofs.Math.Nat.{mul-le-mul}
 use Rattle.std.proofs.lemmas.Bool.{eqb-false, OnFalse_from}
 use Rattle.std.proofs.lemmas.List.{length-take-le}
 use Rattle.pic_num.specs.Space.{Triple, triple}
-use Rattle.pic_grid.specs.Cells.{count_of, IsWithin}
+use Rattle.pic_block.specs.Cells.{count_of, IsWithin}
+use Rattle.pic_block.proofs.BlockRowLaws.{rows_of, rows_count}
+use Rattle.pic_block.proofs.PlaceLaws.{first_place, next_place}
+use Rattle.pic_block.proofs.RowLaws.{part_long}
 use Rattle.pic_grid.specs.Lattice.{value_at}
-use Rattle.pic_grid.proofs.BlockRowLaws.{rows_of, rows_count}
 use Rattle.pic_grid.proofs.CopyLaws.{rows_none, rows_more, rows_all, as_long}
-use Rattle.pic_grid.proofs.PlaceLaws.{first_place, next_place}
-use Rattle.pic_grid.proofs.RowLaws.{part_long}
 use Rattle.pic_filter.specs.Smoothing.{smoothed_field}
 use Rattle.pic_filter.proofs.KeptLaws.{front_small, none_are_small}
 use Rattle.pic_filter.proofs.PlaceLaws.{row_begin, ready_first, ready_next}

@@ -1,9 +1,9 @@
 use Rattle.std.proofs.Common.{◌≡◌, ◌+◌, ◌*◌, length}
 use Rattle.pic_num.specs.Space.{triple}
+use Rattle.pic_block.proofs.BlockRowLaws.{rows_of}
+use Rattle.pic_block.proofs.PlaceLaws.{IsPlace}
 use Rattle.pic_grid.specs.Lattice.{value_at}
-use Rattle.pic_grid.proofs.BlockRowLaws.{rows_of}
 use Rattle.pic_grid.proofs.CopyLaws.{RowsCopied}
-use Rattle.pic_grid.proofs.PlaceLaws.{IsPlace}
 use Rattle.pic_filter.specs.Kept.{AreSmall}
 use Rattle.pic_filter.specs.Smoothing.{smoothed_field}
 use Rattle.pic_filter.proofs.PlaceLaws.{IsReady}

@@ -1,9 +1,9 @@
 use Rattle.std.proofs.Common.{◌^◌, ◌+◌, ◌*◌, ℤ, unsigned_abs, ap, subst, ◌∙◌, arith}
 use mir.Syntax.{w32}
 use Rattle.std.proofs.lemmas.Int.{to_z-of_z}
+use Rattle.pic_block.specs.Block.{AllAtMost}
+use Rattle.pic_block.proofs.BlockLaws.{all_at_most_more}
 use Rattle.pic_grid.specs.Flux.{flux}
-use Rattle.pic_grid.specs.Block.{AllAtMost}
-use Rattle.pic_grid.proofs.BlockLaws.{all_at_most_more}
 use Rattle.pic_flux.specs.Adds.{Adds, flux_limit}
 use Rattle.pic_flux.specs.CellFlux.{edge_flux}
 use Rattle.pic_flux.proofs.AddsLaws.{adds_grow, adds_same, room_before}

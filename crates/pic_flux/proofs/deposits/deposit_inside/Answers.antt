@@ -3,17 +3,17 @@ use mir.Syntax.{w32}
 use mir.Val.{SFits}
 use Rattle.pic_num.specs.declared.axis.Axis.{Axis}
 use Rattle.pic_num.specs.declared.axis.Axis.TheVariants.{X, Y, Z}
+use Rattle.pic_block.specs.Block.{BlockValues, IsShaped, AllAtMost}
+use Rattle.pic_block.proofs.BlockLaws.{all_at_most_more}
+use Rattle.pic_block.specs.Fours.{base_cell}
+use Rattle.pic_block.specs.declared.base.Base.{Base}
 use Rattle.pic_grid.specs.Flux.{flux}
 use Rattle.pic_grid.specs.Segment.{Piece, IsInCell}
-use Rattle.pic_grid.specs.Block.{BlockValues, IsShaped, AllAtMost}
-use Rattle.pic_grid.proofs.BlockLaws.{all_at_most_more}
 use Rattle.pic_flux.specs.Adds.{Adds}
 use Rattle.pic_flux.specs.CellFlux.{at_four}
 use Rattle.pic_flux.specs.Corners.{on_axis}
 use Rattle.pic_flux.specs.Spans.{AreSpans, four_by}
 use Rattle.pic_flux.specs.declared.spans.Spans.{Spans}
-use Rattle.pic_grid.specs.Fours.{base_cell}
-use Rattle.pic_grid.specs.declared.base.Base.{Base}
 use Rattle.pic_flux.proofs.SpanLaws.{four_is}
 use Rattle.pic_flux.proofs.AddsLaws.{adds_grow, adds_same}
 use Rattle.pic_flux.proofs.FluxSizeLaws.{on_axis_most, charge_passed, charge_few}

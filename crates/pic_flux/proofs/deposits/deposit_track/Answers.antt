@@ -4,11 +4,11 @@ use Rattle.std.proofs.lemmas.Int.{to_z-of_z}
 use Rattle.std.proofs.lemmas.List.{take_all}
 use Rattle.pic_num.specs.declared.axis.Axis.{Axis}
 use Rattle.pic_num.specs.Space.{Spot}
+use Rattle.pic_block.proofs.BlockLaws.{shaped_twice}
+use Rattle.pic_block.proofs.ShapeLaws.{shaped_same}
 use Rattle.pic_grid.specs.Flux.{flux, path_flux}
 use Rattle.pic_grid.specs.Segment.{Piece}
 use Rattle.pic_grid.proofs.FluxLaws.{path_flux_most}
-use Rattle.pic_grid.proofs.BlockLaws.{shaped_twice}
-use Rattle.pic_grid.proofs.ShapeLaws.{shaped_same}
 use Rattle.pic_flux.specs.Adds.{Adds, SumsBelow}
 use Rattle.pic_flux.proofs.AddsLaws.{adds_start, adds_more, adds_grow, room_next}
 use Rattle.pic_flux.proofs.deposits.deposit_track.Goals as goal

@@ -1,6 +1,6 @@
 use Rattle.std.proofs.Common.{take}
+use Rattle.pic_block.specs.Block.{IsShaped}
 use Rattle.pic_grid.specs.Flux.{path_flux}
-use Rattle.pic_grid.specs.Block.{IsShaped}
 use Rattle.pic_flux.specs.Adds.{Adds}
 use Rattle.pic_flux.proofs.deposits.deposit_track.Given as goal
 

@@ -1,6 +1,6 @@
 use Rattle.std.proofs.Common.{sym, ap, subst}
-use Rattle.pic_grid.specs.Block.{BlockValues}
-use Rattle.pic_grid.specs.Fours.{base_cell}
+use Rattle.pic_block.specs.Block.{BlockValues}
+use Rattle.pic_block.specs.Fours.{base_cell}
 use Rattle.pic_flux.specs.Adds.{Adds}
 use Rattle.pic_flux.specs.CellFlux.{at_four}
 use Rattle.pic_flux.proofs.EdgeLaws.{four_adds}

@@ -2,8 +2,8 @@ use Rattle.std.proofs.Common.{◌≡◌, ℤ, pos, to_z, of_z, sym, subst, ap, �
 use mir.Syntax.{w64}
 use mir.Val.{SFits}
 use Rattle.std.proofs.lemmas.Int.{to_z-of_z, fits_signed_from_abs}
-use Rattle.pic_grid.specs.Fours.{AreFound, base_cell}
-use Rattle.pic_grid.specs.declared.fours.Four.{Four}
+use Rattle.pic_block.specs.Fours.{AreFound, base_cell}
+use Rattle.pic_block.specs.declared.fours.Four.{Four}
 use Rattle.pic_flux.specs.Adds.{Adds}
 use Rattle.pic_flux.specs.CellFlux.{at_four}
 use Rattle.pic_flux.specs.Spans.{four_by}

@@ -4,7 +4,7 @@ use mir.Syntax.{w32, w64}
 use mir.Val.{SFits}
 use Rattle.pic_num.specs.Space.{Triple, Spot}
 use Rattle.pic_num.proofs.SizeLaws.{codes, code_fits, code_is, code_at_most}
-use Rattle.pic_grid.specs.Among.{IsOneOf}
+use Rattle.pic_block.specs.Among.{IsOneOf}
 use Rattle.pic_flux.proofs.FluxSizeLaws.{charge_passed, widened_is, widened_small}
 use Rattle.pic_flux.proofs.edges.layers_in.Goals as goal
 

@@ -3,7 +3,7 @@ use Rattle.std.proofs.Math.Nat.{mul-le-mul_left}
 use Rattle.pic_num.specs.Limits.{most_force}
 use Rattle.pic_num.specs.Sizes.{IsAtMost}
 use Rattle.pic_num.proofs.SizeLaws.{codes, code_is}
-use Rattle.pic_grid.specs.Weak.{most_weak}
+use Rattle.pic_block.specs.Weak.{most_weak}
 use Rattle.pic_gather.proofs.HalfLaws.{held, word}
 use Rattle.pic_gather.proofs.MixLaws.{held_row}
 use Rattle.pic_gather.proofs.layered.row.Goals as goal

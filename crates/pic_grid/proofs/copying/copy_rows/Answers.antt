@@ -1,10 +1,10 @@
 use Rattle.std.proofs.Common.{◌+◌, ◌*◌, ◌<◌, ◌≤◌, length, ◌∙◌, arith}
-use Rattle.pic_grid.proofs.RowLaws.{part_long}
 use Rattle.pic_num.specs.Space.{triple}
-use Rattle.pic_grid.specs.Cells.{count_of}
-use Rattle.pic_grid.proofs.BlockRowLaws.{rows_of, rows_count}
+use Rattle.pic_block.proofs.RowLaws.{part_long}
+use Rattle.pic_block.specs.Cells.{count_of}
+use Rattle.pic_block.proofs.BlockRowLaws.{rows_of, rows_count}
+use Rattle.pic_block.proofs.PlaceLaws.{first_place, next_place}
 use Rattle.pic_grid.proofs.CopyLaws.{rows_none, rows_more, rows_all, as_long}
-use Rattle.pic_grid.proofs.PlaceLaws.{first_place, next_place}
 use Rattle.pic_grid.proofs.copying.copy_rows.Goals as goal
 
 pub loop-row-init : goal.loop-row-init

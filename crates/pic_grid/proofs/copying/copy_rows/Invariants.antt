@@ -1,7 +1,7 @@
 use Rattle.pic_num.specs.Space.{triple}
-use Rattle.pic_grid.proofs.BlockRowLaws.{rows_of}
+use Rattle.pic_block.proofs.BlockRowLaws.{rows_of}
+use Rattle.pic_block.proofs.PlaceLaws.{IsPlace}
 use Rattle.pic_grid.proofs.CopyLaws.{RowsCopied}
-use Rattle.pic_grid.proofs.PlaceLaws.{IsPlace}
 use Rattle.pic_grid.proofs.copying.copy_rows.Given as goal
 
 -- the walk stands at the row of its number, and the rows so far are copied

@@ -1,7 +1,7 @@
 use Rattle.std.proofs.Common.{pos, ◌*◌, replicate, ◌∙◌, ap}
 use Rattle.pic_num.specs.Space.{Triple, triple}
-use Rattle.pic_grid.specs.Cells.{count_of, cell_of}
-use Rattle.pic_grid.specs.Block.{BlockValues}
+use Rattle.pic_block.specs.Cells.{count_of, cell_of}
+use Rattle.pic_block.specs.Block.{BlockValues}
 use Rattle.pic_grid.specs.Parts.{part_size, corner_of, IsPart}
 use Rattle.pic_grid.proofs.PartLaws.{laid_more}
 use Rattle.pic_grid.proofs.parts.blocks_of.Goals as goal

@@ -6,9 +6,10 @@ use Rattle.std.proofs.Math.Seq.{drop-cons, set-append_seam}
 use mir.Syntax.{w128}
 use mir.Val.{SFits}
 use Rattle.pic_num.specs.Space.{triple}
-use Rattle.pic_grid.specs.Cells.{count_of, place_of}
-use Rattle.pic_grid.specs.Lattice.{overwritten, with_value}
-use Rattle.pic_grid.proofs.PlaceLaws.{IsPlace, next_place}
+use Rattle.pic_block.specs.Cells.{count_of, place_of}
+use Rattle.pic_block.specs.Block.{overwritten}
+use Rattle.pic_block.proofs.PlaceLaws.{IsPlace, next_place}
+use Rattle.pic_grid.specs.Lattice.{with_value}
 use Rattle.pic_grid.proofs.setting.set_each.Goals as goal
 
 -- one element more

@@ -1,6 +1,6 @@
 use Rattle.std.proofs.Common.{sym, ap, ◌∙◌}
-use Rattle.pic_grid.specs.Cells.{axis_of}
-use Rattle.pic_grid.proofs.CellLaws.{axis_of-number}
+use Rattle.pic_block.specs.Cells.{axis_of}
+use Rattle.pic_block.proofs.CellLaws.{axis_of-number}
 use Rattle.pic_fields.proofs.ReadLaws.{read_as, read_same, exits_as}
 use Rattle.pic_header.specs.HeaderFields.{loop_axis_at}
 use Rattle.pic_header.proofs.loop_reader.read_axis.Goals as goal

@@ -1,6 +1,6 @@
 use Rattle.std.proofs.Common.{◌≡◌, ◌++◌, ◌+◌, ◌*◌, ◌<◌, ℕ, length, slice_index_or}
 use Rattle.std.specs.List.{All}
-use Rattle.pic_grid.specs.Cells.{Grid}
+use Rattle.pic_block.specs.Cells.{Grid}
 use Rattle.pic_load.specs.Drawing.{IsSpread}
 use Rattle.pic_load.specs.Generator.{after}
 use Rattle.pic_load.specs.Loading.{no_particle, beside, first_of_species, IsPlaced}

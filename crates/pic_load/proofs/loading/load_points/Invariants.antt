@@ -1,6 +1,6 @@
 use Rattle.std.proofs.Common.{◌≡◌, ◌++◌, ◌<◌, ℕ, length, slice_index_or}
 use Rattle.std.specs.List.{All}
-use Rattle.pic_grid.specs.Cells.{Grid}
+use Rattle.pic_block.specs.Cells.{Grid}
 use Rattle.pic_deck.specs.Species.{ArePoints, no_point}
 use Rattle.pic_load.specs.Loading.{first_of_species, IsPlaced}
 use Rattle.pic_load.proofs.loading.load_points.Given as goal

@@ -1,6 +1,6 @@
 use Rattle.std.proofs.Common.{◌++◌, List, refl, sym, subst}
 use Rattle.pic_num.specs.declared.motion.Particle.{Particle}
-use Rattle.pic_grid.proofs.BlockLayerLaws.{zeros_add_none}
+use Rattle.pic_block.proofs.BlockLayerLaws.{zeros_add_none}
 use Rattle.pic_tile.specs.Same.{Same}
 use Rattle.pic_tile.specs.Directions.{here}
 use Rattle.pic_tile.specs.Layers.{layers_begin}

@@ -4,7 +4,7 @@ use Rattle.pic_num.specs.declared.axis.Axis.{Axis}
 use Rattle.pic_num.specs.declared.motion.Kind.{Kind}
 use Rattle.pic_num.specs.Sizes.{IsAtMost}
 use Rattle.pic_num.specs.Space.{Triple}
-use Rattle.pic_grid.specs.Cells.{Grid, IsWithin, place_of}
+use Rattle.pic_block.specs.Cells.{Grid, IsWithin, place_of}
 use Rattle.pic_grid.specs.Differences.{div_e}
 use Rattle.pic_grid.specs.Lattice.{value_at}
 use Rattle.pic_grid.specs.Species.{IsKind}

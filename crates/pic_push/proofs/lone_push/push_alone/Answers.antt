@@ -1,6 +1,6 @@
 use Rattle.std.proofs.Common.{sym, ap, ◌∙◌}
 use Rattle.pic_boris.specs.Pushes.{shift_of, halting_of}
-use Rattle.pic_grid.specs.Cells.{Grid}
+use Rattle.pic_block.specs.Cells.{Grid}
 use Rattle.pic_grid.specs.PushPhase.{moved}
 use Rattle.pic_tile.specs.Frame.{felt_in}
 use Rattle.pic_push.proofs.SendLaws.{after_is, stays}

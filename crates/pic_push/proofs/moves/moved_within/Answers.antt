@@ -7,7 +7,7 @@ use mir.Val.{SFits, to_z, of_z}
 use Rattle.pic_num.specs.Limits.{most_side, most_cells_of_axis}
 use Rattle.pic_num.specs.Rounding.{residue}
 use Rattle.pic_num.specs.Space.{triple, spot}
-use Rattle.pic_grid.specs.Among.{IsOneOf}
+use Rattle.pic_block.specs.Among.{IsOneOf}
 use Rattle.pic_grid.specs.PushPhase.{moved}
 use Rattle.pic_push.proofs.StayLaws.{as_it_was, no_large}
 use Rattle.pic_push.proofs.moves.moved_within.Goals as goal

@@ -4,7 +4,7 @@ use Rattle.pic_num.specs.Push.{plus}
 use Rattle.pic_num.specs.Space.{Triple, spot, triple, unwrapped}
 use Rattle.pic_chain.specs.Links.{particle_of}
 use Rattle.pic_boris.specs.Pushes.{shift_of}
-use Rattle.pic_grid.specs.Cells.{Grid}
+use Rattle.pic_block.specs.Cells.{Grid}
 use Rattle.pic_grid.specs.PushPhase.{moved}
 use Rattle.pic_tile.specs.declared.parcel.Parcel.{Parcel}
 use Rattle.pic_tile.specs.Directions.{here}

@@ -5,7 +5,7 @@ use mir.Syntax.{w32}
 use mir.Val.{SFits}
 use Rattle.pic_num.specs.Limits.{most_charge}
 use Rattle.pic_num.specs.Sizes.{IsAtMost}
-use Rattle.pic_grid.specs.Cells.{Grid, IsCells}
+use Rattle.pic_block.specs.Cells.{Grid, IsCells}
 use Rattle.pic_tile.specs.Tiling.{cells_of}
 use Rattle.pic_push.proofs.SendLaws.{path_fits}
 use Rattle.pic_push.proofs.sending.path_of.Goals as goal

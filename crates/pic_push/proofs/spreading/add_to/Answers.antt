@@ -1,5 +1,5 @@
 use Rattle.std.proofs.Common.{rules}
-use Rattle.pic_grid.specs.Block.{IsShaped}
+use Rattle.pic_block.specs.Block.{IsShaped}
 use Rattle.pic_flux.specs.Adds.{Adds}
 use Rattle.pic_flux.specs.CellFlux.{edge_flux}
 use Rattle.pic_push.proofs.GainLaws.{gains_changed, called_flux}

@@ -1,5 +1,5 @@
 use Rattle.std.proofs.Common.{ℕ, rules, ap, sym, subst, ◌∙◌}
-use Rattle.pic_grid.specs.Block.{BlockValues, IsShaped}
+use Rattle.pic_block.specs.Block.{BlockValues, IsShaped}
 use Rattle.pic_flux.specs.Adds.{Adds}
 use Rattle.pic_flux.specs.CellFlux.{edge_flux}
 use Rattle.pic_tile.specs.Tile.{parcel_at}

@@ -3,7 +3,7 @@ use Rattle.pic_num.specs.declared.motion.Particle.{Particle}
 use Rattle.pic_num.specs.Limits.{most_side}
 use Rattle.pic_num.specs.Space.{spot, triple}
 use Rattle.pic_chain.specs.Links.{particle_of}
-use Rattle.pic_grid.specs.Cells.{Grid}
+use Rattle.pic_block.specs.Cells.{Grid}
 use Rattle.pic_tile.specs.Frame.{felt_in}
 use Rattle.pic_tile.specs.Layers.{lowest_cell}
 use Rattle.pic_tile.specs.declared.parcel.Parcel.{Parcel}

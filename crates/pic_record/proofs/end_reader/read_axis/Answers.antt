@@ -1,5 +1,5 @@
 use Rattle.std.proofs.Common.{sym}
-use Rattle.pic_grid.specs.Cells.{axis_of}
+use Rattle.pic_block.specs.Cells.{axis_of}
 use Rattle.pic_record.specs.EndFields.{axis_at}
 use Rattle.pic_fields.proofs.ReadLaws.{read_as, read_same, exits_as}
 use Rattle.pic_record.proofs.end_reader.read_axis.Goals as goal

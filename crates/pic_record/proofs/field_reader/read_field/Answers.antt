@@ -2,8 +2,8 @@ use Rattle.std.proofs.Common.{◌≡◌, ◌+◌, ◌*◌, ◌≤◌, ◌++◌, 
 use Rattle.std.proofs.lemmas.Result.{IfOk-from_err}
 use Rattle.std.proofs.lemmas.List.{length-take-le}
 use Rattle.std.proofs.Math.Seq.{take-length}
-use Rattle.pic_grid.specs.Cells.{count_of}
-use Rattle.pic_grid.specs.Lattice.{overwritten}
+use Rattle.pic_block.specs.Cells.{count_of}
+use Rattle.pic_block.specs.Block.{overwritten}
 use Rattle.pic_grid.proofs.WholeLaws.{length-overwritten}
 use Rattle.pic_fields.specs.Parser.{each}
 use Rattle.pic_fields.specs.Reads.{always, HasRead}

@@ -1,6 +1,6 @@
 -- The pieces so far.
 use Rattle.std.proofs.Common.{◌≡◌, ◌+◌, ◌-◌, ◌*◌, ◌≤◌, length, take}
-use Rattle.pic_grid.specs.Cells.{count_of}
+use Rattle.pic_block.specs.Cells.{count_of}
 use Rattle.pic_fields.specs.Parser.{each}
 use Rattle.pic_fields.specs.Reads.{HasRead}
 use Rattle.pic_record.specs.Firsts.{FirstAre}

@@ -1,7 +1,7 @@
 use Rattle.std.proofs.Common.{◌≡◌, ◌+◌, ◌*◌, ◌++◌, length, take, drop, Result, Ok, Err, refl, ap, ◌∙◌, subst, arith}
 use Rattle.std.proofs.lemmas.Result.{IfOk-from_err}
 use Rattle.std.specs.Prelude.{sum, OnOk}
-use Rattle.pic_grid.specs.Cells.{count_of}
+use Rattle.pic_block.specs.Cells.{count_of}
 use Rattle.pic_energy.specs.Energies.{energies_of}
 use Rattle.pic_fields.specs.Reads.{HasRead, Reads, as_it_is}
 use Rattle.pic_fields.proofs.ReadLaws.{read_up_to, reads_up_to, reads_as, goes_on, exits}

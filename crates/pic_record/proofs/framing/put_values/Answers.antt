@@ -4,8 +4,8 @@ use Rattle.std.proofs.lemmas.Result.{err_from_is_err_and}
 use Rattle.std.specs.Prelude.{flat_map}
 use Rattle.pic_num.specs.Bytes.{i128_bytes}
 use Rattle.pic_num.specs.Space.{triple}
-use Rattle.pic_grid.specs.Cells.{count_of, place_of, IsWithin}
-use Rattle.pic_grid.proofs.PlaceLaws.{first_place}
+use Rattle.pic_block.specs.Cells.{count_of, place_of, IsWithin}
+use Rattle.pic_block.proofs.PlaceLaws.{first_place}
 use Rattle.pic_energy.proofs.WalkLaws.{IsRun, run_is, run_fits, run_behind}
 use Rattle.pic_record.specs.RecordText.{values_bytes}
 use Rattle.pic_record.specs.Queues.{Queued}

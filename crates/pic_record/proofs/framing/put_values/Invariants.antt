@@ -3,7 +3,7 @@ use Rattle.std.specs.Prelude.{flat_map}
 use Rattle.pic_io.specs.Told.{Calm}
 use Rattle.pic_num.specs.Bytes.{i128_bytes}
 use Rattle.pic_num.specs.Space.{triple}
-use Rattle.pic_grid.proofs.PlaceLaws.{IsPlace}
+use Rattle.pic_block.proofs.PlaceLaws.{IsPlace}
 use Rattle.pic_record.specs.Queues.{Queued}
 use Rattle.pic_record.proofs.framing.put_values.Given as goal
 

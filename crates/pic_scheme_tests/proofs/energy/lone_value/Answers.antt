@@ -14,9 +14,9 @@ use Rattle.pic_num.specs.declared.axis.Axis.{Axis}
 use Rattle.pic_num.specs.declared.axis.Axis.TheVariants.{X}
 use Rattle.pic_num.proofs.RoundingLaws.{scaled-no_larger}
 use Rattle.pic_num.proofs.SizeLaws.{code_at_most, codes}
+use Rattle.pic_block.specs.Cells.{IsWithin, count_of, place_of}
+use Rattle.pic_block.proofs.CellLaws.{place_of_below}
 use Rattle.pic_grid.specs.Lattice.{Field, value_at, with_value}
-use Rattle.pic_grid.specs.Cells.{IsWithin, count_of, place_of}
-use Rattle.pic_grid.proofs.CellLaws.{place_of_below}
 use Rattle.pic_energy.specs.Energies.{IsBounded}
 use Rattle.pic_scheme_tests.proofs.energy.lone_value.Goals as goal
 

@@ -1,5 +1,5 @@
 use Rattle.std.proofs.Common.{◌^◌, sym, ap, subst}
-use Rattle.pic_grid.specs.Block.{BlockValues, AllAtMost}
+use Rattle.pic_block.specs.Block.{BlockValues, AllAtMost}
 use Rattle.pic_grid.proofs.SmallLaws.{all_zeros}
 use Rattle.pic_scheme_tests.proofs.field.block_of.Goals as goal
 

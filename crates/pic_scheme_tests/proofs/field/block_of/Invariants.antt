@@ -1,6 +1,6 @@
 use Rattle.std.proofs.Common.{◌≡◌, ◌^◌}
 use Rattle.pic_num.specs.Space.{triple, spot}
-use Rattle.pic_grid.specs.Block.{AllAtMost}
+use Rattle.pic_block.specs.Block.{AllAtMost}
 use Rattle.pic_scheme_tests.proofs.field.block_of.Given as goal
 
 abbrev pub invariant-loop-axis : goal.invariant-loop-axis

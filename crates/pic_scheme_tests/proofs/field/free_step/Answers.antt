@@ -1,5 +1,5 @@
 use Rattle.std.proofs.Common.{◌^◌, arith}
-use Rattle.pic_grid.proofs.BlockLaws.{all_at_most_more}
+use Rattle.pic_block.proofs.BlockLaws.{all_at_most_more}
 use Rattle.pic_field.specs.FieldPhases.{most_lessened}
 use Rattle.pic_scheme_tests.proofs.field.free_step.Goals as goal
 

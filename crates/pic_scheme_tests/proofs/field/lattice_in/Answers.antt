@@ -1,5 +1,5 @@
 use Rattle.std.proofs.Common.{sym, ◌∙◌, ap, subst}
-use Rattle.pic_grid.specs.Cells.{Grid}
+use Rattle.pic_block.specs.Cells.{Grid}
 use Rattle.pic_grid.specs.Lattice.{Field, EachAtMost}
 use Rattle.pic_grid.proofs.SmallLaws.{each_zeros}
 use Rattle.pic_scheme_tests.proofs.field.lattice_in.Goals as goal

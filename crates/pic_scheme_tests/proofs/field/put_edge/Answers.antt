@@ -2,7 +2,7 @@ use Rattle.std.proofs.Common.{◌^◌, ◌≤◌, to_z, of_z, sym, subst, arith}
 use Rattle.std.specs.Prelude.{unsigned_abs}
 use mir.Syntax.{w128}
 use Rattle.pic_num.specs.Sizes.{IsAtMost}
-use Rattle.pic_grid.specs.Block.{AllAtMost}
+use Rattle.pic_block.specs.Block.{AllAtMost}
 use Rattle.pic_grid.proofs.SmallLaws.{all_with}
 use Rattle.pic_scheme_tests.proofs.field.put_edge.Goals as goal
 

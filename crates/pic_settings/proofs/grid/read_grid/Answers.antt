@@ -1,5 +1,5 @@
 use Rattle.std.proofs.Common.{Ok, ap, sym}
-use Rattle.pic_grid.specs.Cells.{Grid}
+use Rattle.pic_block.specs.Cells.{Grid}
 use Rattle.pic_settings.specs.Keys.{grid}
 use Rattle.pic_walk.proofs.WalkLaws.{goes_on, exits}
 use Rattle.pic_settings.proofs.GridLaws.{allowed}

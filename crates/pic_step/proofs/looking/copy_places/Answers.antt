@@ -3,7 +3,7 @@ use Rattle.std.proofs.lemmas.Int.{to_z-of_z}
 use mir.Syntax.{w128}
 use Rattle.std.proofs.lemmas.List.Elements.{All-nil}
 use Rattle.pic_num.specs.Space.{Triple, triple}
-use Rattle.pic_grid.specs.Cells.{IsWithin}
+use Rattle.pic_block.specs.Cells.{IsWithin}
 use Rattle.pic_grid.specs.Lattice.{Field}
 use Rattle.pic_step.specs.Shown.{HaveSameAt}
 use Rattle.pic_step.proofs.LookLaws.{no_place, place_more, shape_kept}

@@ -1,6 +1,6 @@
 use Rattle.std.proofs.Common.{◌<◌, length, IsSome, sym, ◌∙◌, subst, arith}
 use Rattle.std.proofs.lemmas.List.{get_or_default}
-use Rattle.pic_grid.specs.Parts.{no_block}
+use Rattle.pic_block.specs.Block.{no_block}
 use Rattle.pic_tile.specs.Directions.{here}
 use Rattle.pic_tile.specs.Tile.{TileValue, parcel_at, no_tile}
 use Rattle.pic_step.proofs.SwapLaws.{swapping_none, swapping_more}

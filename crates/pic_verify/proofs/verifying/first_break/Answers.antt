@@ -1,5 +1,5 @@
 use Rattle.std.proofs.Common.{length, sym, ap, subst, ◌∙◌, arith}
-use Rattle.pic_grid.specs.Cells.{IsWithin}
+use Rattle.pic_block.specs.Cells.{IsWithin}
 use Rattle.pic_verify.proofs.BreakLaws.{can_share, break_found}
 use Rattle.pic_verify.proofs.verifying.first_break.Goals as goal
 

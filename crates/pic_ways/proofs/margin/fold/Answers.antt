@@ -3,9 +3,9 @@ use Rattle.std.proofs.lemmas.Int.{to_z-of_z}
 use Rattle.std.proofs.lemmas.List.{length-set}
 use mir.Syntax.{w128}
 use Rattle.pic_num.specs.Space.{Triple, triple}
-use Rattle.pic_grid.specs.Cells.{IsWithin}
+use Rattle.pic_block.specs.Cells.{IsWithin}
+use Rattle.pic_block.proofs.CellLaws.{place_of_below}
 use Rattle.pic_grid.specs.Current.{wrapped}
-use Rattle.pic_grid.proofs.CellLaws.{place_of_below}
 use Rattle.pic_ways.specs.Margin.{edge_or_zero}
 use Rattle.pic_ways.proofs.PlaceLaws.{written_more}
 use Rattle.pic_ways.proofs.margin.fold.Goals as goal

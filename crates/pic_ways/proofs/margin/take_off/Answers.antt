@@ -6,10 +6,10 @@ use mir.Val.{to_z, of_z}
 use Rattle.pic_num.specs.Sizes.{IsAtMost}
 use Rattle.pic_num.specs.Space.{Triple, triple}
 use Rattle.pic_num.proofs.SizeLaws.{codes, code_is}
-use Rattle.pic_grid.specs.Cells.{IsWithin, place_of}
+use Rattle.pic_block.specs.Cells.{IsWithin, place_of}
+use Rattle.pic_block.proofs.CellLaws.{place_of_below}
 use Rattle.pic_grid.specs.Current.{wrapped}
 use Rattle.pic_grid.specs.Lattice.{value_at}
-use Rattle.pic_grid.proofs.CellLaws.{place_of_below}
 use Rattle.pic_ways.specs.Margin.{edge_or_zero}
 use Rattle.pic_ways.proofs.PlaceLaws.{written_more, left_behind}
 use Rattle.pic_ways.proofs.margin.take_off.Goals as goal

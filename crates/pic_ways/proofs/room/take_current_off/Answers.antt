@@ -3,8 +3,8 @@ use Rattle.std.proofs.Math.IntN.{ℤ, pos, ◌-ℤ◌}
 use Rattle.std.specs.Prelude.{Option}
 use Rattle.pic_num.specs.Sizes.{IsAtMost}
 use Rattle.pic_num.specs.Space.{Triple, Spot}
-use Rattle.pic_grid.specs.Block.{outer_of}
-use Rattle.pic_grid.specs.Cells.{IsWithin}
+use Rattle.pic_block.specs.Block.{outer_of}
+use Rattle.pic_block.specs.Cells.{IsWithin}
 use Rattle.pic_grid.specs.Current.{wrapped}
 use Rattle.pic_grid.specs.Lattice.{value_at}
 use Rattle.pic_filter.specs.Smoothing.{smoothed, filtered, filter_in, most_to_smooth}

@@ -1,7 +1,7 @@
 use Rattle.std.proofs.Common.{Bool, false, List, length, None, replicate, refl, sym, ap, ◌∙◌, subst, ◌≡◌, ◌<◌, ℕ}
 use Rattle.std.specs.Vec.{with_items}
 use Rattle.std.proofs.lemmas.List.{with_items_is, length-replicate}
-use Rattle.pic_grid.specs.Block.{AllAtMost}
+use Rattle.pic_block.specs.Block.{AllAtMost}
 use Rattle.pic_grid.specs.Traces.{most_flux}
 use Rattle.pic_tile.specs.CoreState.{CoreState, AreAllShut, tile_count, all_particles}
 use Rattle.pic_tile.specs.Directions.{here}

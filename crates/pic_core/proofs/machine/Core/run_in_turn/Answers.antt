@@ -1,6 +1,6 @@
 use Rattle.std.proofs.Common.{◌≡◌, ℕ, ◌<◌, flat_map, arith, sym, subst, ◌∙◌, ap}
 use Rattle.std.specs.List.{range_with_len}
-use Rattle.pic_grid.specs.Cells.{count_of}
+use Rattle.pic_block.specs.Cells.{count_of}
 use Rattle.pic_tile.specs.Frame.{FrameValue}
 use Rattle.pic_core.specs.Events.{Ran}
 use Rattle.pic_core.specs.InTurn.{tiling}

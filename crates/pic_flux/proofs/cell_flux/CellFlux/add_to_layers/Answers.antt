@@ -2,12 +2,12 @@ use Rattle.std.proofs.Common.{ℕ, ◌+◌, ◌^◌, ◌*ℤ◌, subst, arith}
 use Rattle.pic_num.specs.declared.axis.Axis.{Axis}
 use Rattle.pic_num.specs.declared.axis.Axis.TheVariants.{X, Y, Z}
 use Rattle.pic_num.specs.Space.{Spot}
-use Rattle.pic_grid.specs.Block.{BlockValues, IsShaped, AllAtMost}
-use Rattle.pic_grid.proofs.FourLaws.{carried_small}
-use Rattle.pic_grid.proofs.BlockLaws.{all_at_most_more, shaped_twice}
+use Rattle.pic_block.specs.Block.{BlockValues, IsShaped, AllAtMost}
+use Rattle.pic_block.proofs.FourLaws.{carried_small}
+use Rattle.pic_block.proofs.BlockLaws.{all_at_most_more, shaped_twice}
 use Rattle.pic_flux.specs.Adds.{Adds}
-use Rattle.pic_grid.specs.Fours.{base_cell, AreSmall}
-use Rattle.pic_grid.specs.declared.fours.Four.{Four}
+use Rattle.pic_block.specs.Fours.{base_cell, AreSmall}
+use Rattle.pic_block.specs.declared.fours.Four.{Four}
 use Rattle.pic_flux.specs.CellFlux.{at_four}
 use Rattle.pic_flux.specs.Corners.{both}
 use Rattle.pic_flux.proofs.AddsLaws.{adds_twice, adds_grow}

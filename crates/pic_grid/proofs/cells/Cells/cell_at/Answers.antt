@@ -1,7 +1,7 @@
 use Rattle.std.proofs.Common.{◌≡◌, subst}
 use Rattle.pic_num.specs.Space.{triple}
-use Rattle.pic_grid.specs.Cells.{Grid, index_of, cell_of}
-use Rattle.pic_grid.proofs.CellLaws.{index_of-cell_of}
+use Rattle.pic_block.specs.Cells.{Grid, index_of, cell_of}
+use Rattle.pic_block.proofs.CellLaws.{index_of-cell_of}
 use Rattle.pic_grid.proofs.cells.Cells.cell_at.Goals as goal
 
 pub returns-clause-number : goal.returns-clause-number

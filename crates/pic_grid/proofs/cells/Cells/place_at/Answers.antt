@@ -1,6 +1,6 @@
 use Rattle.std.proofs.Common.{ℕ, ◌+◌, ◌*◌, ◌/◌, ◌%◌, sym, ◌∙◌, ap}
 use Rattle.std.proofs.lemmas.Nat.{div-add-mod'}
-use Rattle.pic_grid.specs.Cells.{count_of, place_of}
+use Rattle.pic_block.specs.Cells.{count_of, place_of}
 use Rattle.pic_grid.proofs.cells.Cells.place_at.Goals as goal
 
 pub returns-clause-number : goal.returns-clause-number

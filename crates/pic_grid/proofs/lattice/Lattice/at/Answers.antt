@@ -3,9 +3,9 @@ use mir.Syntax.{w128}
 use mir.Val.{SFits}
 use Rattle.std.proofs.lemmas.Int.{to_z-of_z}
 use Rattle.pic_num.specs.Space.{triple}
-use Rattle.pic_grid.specs.Cells.{IsWithin}
+use Rattle.pic_block.specs.Cells.{IsWithin}
+use Rattle.pic_block.specs.Block.{edge_at}
 use Rattle.pic_grid.specs.Lattice.{Field, value_at}
-use Rattle.pic_grid.specs.Block.{edge_at}
 use Rattle.pic_grid.proofs.PartLaws.{parts_limits, lattice_part, lattice_below, lattice_block, lattice_has, value_at-joined}
 use Rattle.pic_grid.proofs.lattice.Lattice.at.Goals as goal
 

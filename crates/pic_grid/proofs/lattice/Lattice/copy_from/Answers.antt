@@ -1,7 +1,7 @@
 use Rattle.std.proofs.Common.{List, sym, ◌∙◌, ap, subst}
 use Rattle.std.proofs.lemmas.List.{with_items_is}
 use Rattle.pic_num.specs.Space.{triple}
-use Rattle.pic_grid.specs.Block.{BlockValues}
+use Rattle.pic_block.specs.Block.{BlockValues}
 use Rattle.pic_grid.specs.Copying.{AreAmong, AreCopied}
 use Rattle.pic_grid.specs.Lattice.{Field}
 use Rattle.pic_grid.specs.Parts.{IsLattice, joined}

@@ -1,11 +1,9 @@
-use Rattle.std.proofs.Common.{◌≡◌, ◌*◌, ◌<◌, length, sym, subst}
+use Rattle.std.proofs.Common.{◌≡◌, ◌<◌, sym, subst}
 use Rattle.std.proofs.lemmas.List.{get_or_read}
 use Rattle.pic_num.specs.Space.{triple}
-use Rattle.pic_grid.specs.Cells.{count_of}
+use Rattle.pic_block.specs.Block.{no_block}
 use Rattle.pic_grid.specs.Lattice.{Field}
-use Rattle.pic_grid.specs.Block.{BlockValues}
-use Rattle.pic_grid.specs.Parts.{layered, no_block, joined, IsWeakLayer}
-use Rattle.pic_grid.specs.Weak.{AreWeak}
+use Rattle.pic_grid.specs.Parts.{layered, joined, IsWeakLayer}
 use Rattle.pic_grid.proofs.LayeredLaws.{layer_below, is_layer, weak_layer}
 use Rattle.pic_grid.proofs.lattice.Lattice.is_weak.Goals as goal
 
@@ -20,7 +18,6 @@ returns c is_weak =
     let in_z = subst (λ (f : Field). c.args.z < f.cells.z) (sym c.self.view_is) c.requires.below in
     let below = layer_below grid parts blocks l.cells l.parts_fit l.zones parts_are c.args.z in_z in
     let of = get_or_read blocks c.args.z b below c.index-block.ensures no_block in
-    let whole = subst (λ (d : BlockValues). length d.values ≡ 3 * count_of d.size) c.block.view_is c.block.invariant.long in
-    let layer = is_layer grid parts blocks l.cells l.parts_fit l.zones parts_are c.args.z b in_z of whole in
-    let values = subst (λ (d : BlockValues). AreWeak d.values) c.block.view_is (c.block.invariant.small is_weak) in
+    let layer = is_layer grid parts blocks l.cells l.parts_fit l.zones parts_are c.args.z b in_z of c.is_weak.ensures.shape in
+    let values = c.is_weak.ensures.weak is_weak in
     subst (λ (f : Field). IsWeakLayer f c.args.z) c.self.view_is (weak_layer (joined grid parts blocks) c.args.z b.values layer values)

@@ -2,18 +2,18 @@ use Rattle.std.proofs.Common.{◌≡◌, ◌*◌, ◌<◌, List, length, rules, 
 use Rattle.std.proofs.Math.IntN.{ℤ}
 use Rattle.std.proofs.lemmas.List.{get_or_read}
 use Rattle.pic_num.specs.Space.{triple}
-use Rattle.pic_grid.specs.Cells.{count_of}
+use Rattle.pic_block.specs.Cells.{count_of}
+use Rattle.pic_block.specs.Block.{no_block}
 use Rattle.pic_grid.specs.Lattice.{Field}
-use Rattle.pic_grid.specs.Block.{BlockValues}
-use Rattle.pic_grid.specs.Parts.{layered, no_block, joined, IsLayer}
+use Rattle.pic_grid.specs.Parts.{layered, joined, IsLayer}
 use Rattle.pic_grid.proofs.LayeredLaws.{layer_below, is_layer}
 use Rattle.pic_grid.proofs.lattice.Lattice.layer.Goals as goal
-use Rattle.pic_grid.proofs.lattice.Lattice.layer.Goals.{After-as_slice}
+use Rattle.pic_grid.proofs.lattice.Lattice.layer.Goals.{After-values}
 
-parts_are : (c : After-as_slice) → triple c.self.inside.parts ≡ layered c.self.inside.cells.n
+parts_are : (c : After-values) → triple c.self.inside.parts ≡ layered c.self.inside.cells.n
 parts_are c = subst (λ (f : Field). f.parts ≡ layered f.cells) (sym c.self.view_is) c.requires.parts
 
-in_z : (c : After-as_slice) → c.args.z < c.self.inside.cells.n.z
+in_z : (c : After-values) → c.args.z < c.self.inside.cells.n.z
 in_z c = subst (λ (f : Field). c.args.z < f.cells.z) (sym c.self.view_is) c.requires.below
 
 pub index-block-requires : goal.index-block-requires
@@ -33,8 +33,7 @@ returns c =
     let b = c.index-block.result.now in
     let below = layer_below grid parts blocks l.cells l.parts_fit l.zones (parts_are c) c.args.z (in_z c) in
     let of = get_or_read blocks c.args.z b below c.index-block.ensures no_block in
-    let whole = subst (λ (d : BlockValues). length d.values ≡ 3 * count_of d.size) c.block.view_is c.block.invariant.long in
+    let whole : length b.values ≡ 3 * count_of b.size = sym (ap length c.values.ensures.value) ∙ c.values.ensures.shape in
     let layer = is_layer grid parts blocks l.cells l.parts_fit l.zones (parts_are c) c.args.z b (in_z c) of whole in
-    let values = c.as_slice.ensures.value ∙ ap (λ (d : BlockValues). d.values) c.block.view_is in
-    subst (λ (f : Field). IsLayer f c.args.z c.as_slice.result.now) c.self.view_is
-    (subst (λ (xs : List ℤ). IsLayer (joined grid parts blocks) c.args.z xs) (sym values) layer)
+    subst (λ (f : Field). IsLayer f c.args.z c.values.result.now) c.self.view_is
+    (subst (λ (xs : List ℤ). IsLayer (joined grid parts blocks) c.args.z xs) (sym c.values.ensures.value) layer)

@@ -1,11 +1,10 @@
 use Rattle.std.proofs.Common.{◌≡◌, ℕ, ℤ, pos, ◌+◌, ◌-◌, ◌*◌, ◌<◌, ◌≤◌, List, length, take, drop, slice_index_or, rules, sym, ◌∙◌, ap, subst, arith}
 use Rattle.pic_num.specs.Space.{triple, axis_number}
-use Rattle.pic_grid.specs.Block.{BlockValues}
-use Rattle.pic_grid.specs.Cells.{count_of}
+use Rattle.pic_block.specs.Cells.{count_of}
+use Rattle.pic_block.specs.Rows.{part_end}
+use Rattle.pic_block.proofs.RowLaws.{part_long}
 use Rattle.pic_grid.specs.Lattice.{Field, value_at}
 use Rattle.pic_grid.specs.Parts.{part_size, joined}
-use Rattle.pic_grid.specs.Rows.{part_end}
-use Rattle.pic_grid.proofs.RowLaws.{part_long}
 use Rattle.pic_grid.proofs.SlotLaws.{slots_of, slots_index, slots_row, slots_end, slots_inside, slots_run}
 use Rattle.pic_grid.proofs.lattice.Lattice.run_at.Goals as goal
 use Rattle.pic_grid.proofs.lattice.Lattice.run_at.Goals.{After-number}
@@ -25,11 +24,11 @@ count c = (triple c.self.inside.layers).x - c.args.x.place
 
 -- the run ends among those values, and with its part; it has the values of the lattice
 record Known (c : After-number) : Type 0 where
-  fits : start c + count c ≤ length c.as_slice-values.result.now
+  fits : start c + count c ≤ length c.values-values.result.now
   end : c.args.x.index + count c ≡ part_end (part_size c.self.inside.cells.n (triple c.self.inside.parts)).x c.args.x.index
   inside : c.args.x.index + count c ≤ c.self.inside.cells.n.x
   values : (i : ℕ) → i < count c
-      → slice_index_or (take (start c + count c - start c) (drop (start c) c.as_slice-values.result.now)) i (pos 0)
+      → slice_index_or (take (start c + count c - start c) (drop (start c) c.values-values.result.now)) i (pos 0)
       ≡ value_at (joined c.self.inside.cells (triple c.self.inside.parts) c.self.inside.blocks.items) c.args.axis
       (record { x = c.args.x.index + i; y = c.args.y.index; z = c.args.z.index })
 
@@ -43,13 +42,13 @@ known c =
     let b = c.index-block.result.now in
     let read = c.index-block.ensures in
     let on = slots_of c.self.inside.cells parts blocks _ c.args.x c.args.y c.args.z c.self.view_is c.requires.x c.requires.y c.requires.z in
-    let whole = subst (λ (d : BlockValues). length d.values ≡ 3 * count_of d.size) c.block.view_is c.block.invariant.long in
-    let same : b.values ≡ c.as_slice-values.result.now = sym (c.as_slice-values.ensures.value ∙ ap (λ (d : BlockValues). d.values) c.block.view_is) in
+    let whole : length b.values ≡ 3 * count_of b.size = sym (ap length c.values-values.ensures.value) ∙ c.values-values.ensures.shape in
+    let same : b.values ≡ c.values-values.result.now = sym c.values-values.ensures.value in
     let at : axis_number c.args.axis * count_of s + (c.args.x.place + c.args.y.place + c.args.z.place) ≡ start c =
     ap (λ (m : ℕ). m * count_of s + (c.args.x.place + c.args.y.place + c.args.z.place)) (sym c.number.ensures) in
     let end = slots_end n parts s blocks c.args.x c.args.y c.args.z l on b read in
     record {
-      fits = subst (λ (m : ℕ). m + count c ≤ length c.as_slice-values.result.now) at
+      fits = subst (λ (m : ℕ). m + count c ≤ length c.values-values.result.now) at
           (subst (λ (xs : List ℤ). axis_number c.args.axis * count_of s + (c.args.x.place + c.args.y.place + c.args.z.place) + count c ≤ length xs) same
           (slots_row n parts s blocks c.args.x c.args.y c.args.z l on b read c.args.axis whole));
       end = end;
@@ -67,14 +66,14 @@ pub returns-clause-inside : goal.returns-clause-inside
 returns-clause-inside c =
     let at = (goal.at.returns-clause-inside c).After-number in
     let k = known at in
-    let long = part_long c.as_slice-values.result.now (start at) (count at) k.fits in
-    subst (λ (f : Field). c.args.x.index + length (take (start at + count at - start at) (drop (start at) c.as_slice-values.result.now)) ≤ f.cells.x)
+    let long = part_long c.values-values.result.now (start at) (count at) k.fits in
+    subst (λ (f : Field). c.args.x.index + length (take (start at + count at - start at) (drop (start at) c.values-values.result.now)) ≤ f.cells.x)
     c.self.view_is (omega (arith, k.inside, long))
 
 pub returns-clause-values : goal.returns-clause-values
 returns-clause-values c = λ i below.
     let at = (goal.at.returns-clause-values c).After-number in
     let k = known at in
-    let long = part_long c.as_slice-values.result.now (start at) (count at) k.fits in
+    let long = part_long c.values-values.result.now (start at) (count at) k.fits in
     k.values i (omega (arith, long))
     ∙ ap (λ (f : Field). value_at f c.args.axis (record { x = c.args.x.index + i; y = c.args.y.index; z = c.args.z.index })) c.self.view_is

@@ -2,9 +2,9 @@ use Rattle.std.proofs.Common.{◌≡◌, ℤ, rules, to_z, of_z, sym, ◌∙◌,
 use mir.Syntax.{w128}
 use Rattle.std.proofs.lemmas.Int.{to_z-of_z}
 use Rattle.pic_num.specs.Space.{triple, spot}
-use Rattle.pic_grid.specs.Cells.{IsWithin}
+use Rattle.pic_block.specs.Cells.{IsWithin}
+use Rattle.pic_block.specs.Block.{with_edge}
 use Rattle.pic_grid.specs.Lattice.{Field, value_at, with_value}
-use Rattle.pic_grid.specs.Block.{with_edge}
 use Rattle.pic_grid.specs.Parts.{value_in, joined}
 use Rattle.pic_grid.proofs.LatticeLaws.{length-values_of, value_at-same}
 use Rattle.pic_grid.proofs.PartLaws.{parts_limits, lattice_part, lattice_below, lattice_block, lattice_has, lattice_kept, lattice_set}

@@ -1,9 +1,10 @@
 use Rattle.std.proofs.Common.{◌≡◌, ◌+◌, ◌*◌, ◌≤◌, length, slice_index_or, sym, ◌∙◌, ap, subst}
 use Rattle.std.proofs.lemmas.List.{get_or_read}
 use Rattle.pic_num.specs.Space.{Triple, triple}
-use Rattle.pic_grid.specs.Cells.{count_of}
+use Rattle.pic_block.specs.Cells.{count_of}
+use Rattle.pic_block.specs.Block.{no_block}
 use Rattle.pic_grid.specs.Lattice.{Field, with_places}
-use Rattle.pic_grid.specs.Parts.{one_part, no_block}
+use Rattle.pic_grid.specs.Parts.{one_part}
 use Rattle.pic_grid.proofs.WholeLaws.{only_one, size, overwritten_kept, overwritten_is}
 use Rattle.pic_grid.proofs.lattice.Lattice.set_places.Goals as goal
 use Rattle.pic_grid.proofs.lattice.Lattice.set_places.Goals.{After-index_mut}

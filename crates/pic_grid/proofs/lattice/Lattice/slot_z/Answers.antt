@@ -2,7 +2,7 @@ use Rattle.std.proofs.Common.{◌*◌, ◌≤◌, sym, subst, arith}
 use Rattle.pic_num.specs.Space.{Triple, triple}
 use Rattle.pic_num.specs.Limits.{most_cells_of_axis}
 use Rattle.pic_num.proofs.SizeLaws.{times_at_most}
-use Rattle.pic_grid.specs.Cells.{IsSize}
+use Rattle.pic_block.specs.Cells.{IsSize}
 use Rattle.pic_grid.proofs.PartLaws.{parts_limits, part_size_limits}
 use Rattle.pic_grid.proofs.lattice.Lattice.slot_z.Goals as goal
 

@@ -1,5 +1,5 @@
 use Rattle.std.proofs.Common.{◌^◌, sym, subst}
-use Rattle.pic_grid.specs.Block.{AllAtMost}
+use Rattle.pic_block.specs.Block.{AllAtMost}
 use Rattle.pic_grid.proofs.SmallLaws.{all_zeros}
 use Rattle.pic_merge.proofs.merging.tests.flux.Goals as goal
 

@@ -1,5 +1,5 @@
 use Rattle.std.proofs.Common.{sym, ap, ◌∙◌}
-use Rattle.pic_grid.specs.Cells.{Grid}
+use Rattle.pic_block.specs.Cells.{Grid}
 use Rattle.pic_grid.specs.Lattice.{Field, field_of}
 use Rattle.pic_deck.specs.Deck.{initial_e, initial_b}
 use Rattle.pic_step.specs.SerialStep.{world_of}

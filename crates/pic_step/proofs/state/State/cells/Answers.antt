@@ -1,5 +1,5 @@
 use Rattle.std.proofs.Common.{ap, ◌∙◌, subst}
-use Rattle.pic_grid.specs.Cells.{Grid}
+use Rattle.pic_block.specs.Cells.{Grid}
 use Rattle.pic_tile.specs.Tiling.{grid_of_tiling}
 use Rattle.pic_step.specs.Sound.{IsSound}
 use Rattle.pic_step.specs.StateView.{StateView}

@@ -1,6 +1,6 @@
 use Rattle.std.proofs.Common.{rules, ◌≡◌, ◌*◌, ◌<◌, [], ◌∷◌, slice_index_or, w32, to_z, sym, subst}
 use Rattle.pic_num.specs.Space.{Spot, spot}
-use Rattle.pic_grid.specs.Cells.{count_of}
+use Rattle.pic_block.specs.Cells.{count_of}
 use Rattle.pic_tile.specs.Layers.{lowest_cell}
 use Rattle.pic_tile.specs.Tiling.{Tiling, tiling_of}
 use Rattle.pic_tile.specs.Zones.{IsTileZone}

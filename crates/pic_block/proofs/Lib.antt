@@ -1,0 +1,11 @@
+pub mod CellLaws
+pub mod PlaceLaws
+pub mod BlockLaws
+pub mod ShapeLaws
+pub mod WrittenLaws
+pub mod RowLaws
+pub mod BlockLayerLaws
+pub mod BlockRowLaws
+pub mod LayerLaws
+pub mod FourLaws
+pub mod WeakLaws
