@@ -12,5 +12,5 @@ mod vector;
 
 pub use halt::Halt;
 pub use moved::Moved;
-pub use narrow_pushing::push_narrow;
+pub use narrow_pushing::{MAX_SMALL_FIELD, push_narrow};
 pub use pushing::{push, push_wide};

@@ -14,8 +14,8 @@ use crate::narrow::{Narrow, is_at_most, narrow_of, narrow_shift, narrow_sum, sca
 use crate::narrow_turning::narrow_turned;
 use pic_num::{Mult, Sub};
 
-/// The most that a gathered value may be in size here.
-const MAX_SMALL_FIELD: u64 = 1 << 28;
+/// The most that a gathered value may be in size where a push is narrow.
+pub const MAX_SMALL_FIELD: u64 = 1 << 28;
 
 /// The most that a multiplier's power may be here.
 const MAX_SMALL_SHIFT: u32 = 60;

@@ -5,7 +5,7 @@
 -- y.
 use Rattle.std.specs.Prelude.{◌≡◌, ℕ, ◌*◌, ◌/◌, ◌≤◌}
 use Rattle.pic_num.specs.Limits.{most_side}
-use Rattle.pic_num.specs.Space.{Triple, Spot}
+use Rattle.pic_num.specs.Space.{Triple, Spot, AreAtMost}
 use Rattle.pic_grid.specs.Lattice.{Field, value_at}
 use Rattle.pic_grid.specs.Pair.{IsPair, IsPairOf}
 use Rattle.pic_gather.specs.Forces.{gathered_by}
@@ -57,3 +57,10 @@ Gathers f own others gathered =
     (a b : ℕ) (point : Triple) → AreSides f.side f.cells a point own
     → AreSides f.side f.cells b point others
     → gathered ≡ gathered_by f.side f.cells a b (value_at f) point
+
+-- where what is gathered so is at most so large in size on each axis, a condition holds
+abbrev pub IsWithinWhere : Field → Sides → Sides → ℕ → Type 0 → Type 0
+IsWithinWhere f own others most holds =
+    (a b : ℕ) (point : Triple) → AreSides f.side f.cells a point own
+    → AreSides f.side f.cells b point others
+    → AreAtMost (gathered_by f.side f.cells a b (value_at f) point) most → holds

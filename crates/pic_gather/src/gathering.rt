@@ -1,6 +1,7 @@
 //! The gather of E and of B at a point, apart or together.
 
-ghost use Rattle.std.specs.Prelude.{◌≡◌, ◌≤◌, IsTrue};
+ghost use Rattle.std.specs.Prelude.{◌≡◌, ◌^◌, ◌≤◌, ◌↔◌, IfSome, IsSome, IsTrue};
+ghost use Rattle.pic_num.specs.Sizes.{IsAtMost};
 ghost use Rattle.pic_num.specs.Limits.{most_force, most_side};
 ghost use Rattle.pic_num.specs.Space.{triple, spot, AreAtMost};
 ghost use Rattle.pic_grid.specs.Lattice.{value_at};
@@ -9,7 +10,7 @@ ghost use Rattle.pic_grid.specs.Hat.{IsInBox};
 ghost use Rattle.pic_grid.specs.Parts.{layered};
 ghost use Rattle.pic_gather.specs.Cube.{IsCubeOf};
 ghost use Rattle.pic_gather.specs.Forces.{AreForces};
-ghost use Rattle.pic_gather.specs.Sides.{AreSidesOf, Gathers};
+ghost use Rattle.pic_gather.specs.Sides.{AreSidesOf, Gathers, IsWithinWhere};
 ghost use Rattle.pic_gather.specs.Weak.{AreWeakLayers, IsWeak};
 
 use crate::component::component;
@@ -76,13 +77,26 @@ pub fn gather(force_e: &Lattice, force_b: &Lattice, point: [u32; 3]) -> Gathered
             b: gather_b(force_b, point),
         };
     }
-    gather_layered(force_e, force_b, point, false)
+    let cells = force_e.cells();
+    let cube = Cube::of(cells.sub());
+    let at = places_of(cells, point);
+    let weak = are_weak(force_e, at) & are_weak(force_b, at);
+    Gathered {
+        e: layered_components(force_e, cube, at.middles, at.nodes, weak),
+        b: layered_components(force_b, cube, at.nodes, at.middles, weak),
+    }
 }
 
-/// The same where both lattices are known to be weak, as `is_weak` says: it asks for no layer, and
-/// sums in 64 bits alone.
+/// The same where both lattices are known to be weak, as `is_weak` says, and no component is above
+/// `most` in size; else `None`. It asks for no layer, and sums in 64 bits alone.
+// Each component is tested where it is made: of all six at once a compiler keeps the values of all.
 #[inline(always)]
-pub fn gather_weak(force_e: &Lattice, force_b: &Lattice, point: [u32; 3]) -> Gathered
+pub fn gather_weak(
+    force_e: &Lattice,
+    force_b: &Lattice,
+    point: [u32; 3],
+    most: u64,
+) -> Option<Gathered>
     requires in_box { IsInBox force_e.now.side force_e.now.cells (triple point) }
     requires cells { force_b.now.cells ≡ force_e.now.cells }
     requires side { force_b.now.side ≡ force_e.now.side }
@@ -90,44 +104,22 @@ pub fn gather_weak(force_e: &Lattice, force_b: &Lattice, point: [u32; 3]) -> Gat
     requires small_b { AreForces force_b.now }
     requires weak_e { IsWeak force_e.now }
     requires weak_b { IsWeak force_b.now }
-    ensures e { spot result.e
-        ≡ gathered_e force_e.now.side force_e.now.cells (value_at force_e.now) (triple point) }
-    ensures b { spot result.b
-        ≡ gathered_b force_b.now.side force_b.now.cells (value_at force_b.now) (triple point) }
-    ensures size_e { AreAtMost (spot result.e) most_force }
-    ensures size_b { AreAtMost (spot result.b) most_force }
-{
-    gather_layered(force_e, force_b, point, true)
-}
-
-/// The same in lattices with a part for each layer of z, which are known to be weak where `weak` is
-/// set.
-#[inline(always)]
-fn gather_layered(force_e: &Lattice, force_b: &Lattice, point: [u32; 3], weak: bool) -> Gathered
-    requires in_box { IsInBox force_e.now.side force_e.now.cells (triple point) }
-    requires cells { force_b.now.cells ≡ force_e.now.cells }
-    requires side { force_b.now.side ≡ force_e.now.side }
-    requires parts_e { force_e.now.parts ≡ layered force_e.now.cells }
-    requires parts_b { force_b.now.parts ≡ layered force_b.now.cells }
-    requires small_e { AreForces force_e.now }
-    requires small_b { AreForces force_b.now }
-    requires weak_e { IsTrue weak → IsWeak force_e.now }
-    requires weak_b { IsTrue weak → IsWeak force_b.now }
-    ensures e { spot result.e
-        ≡ gathered_e force_e.now.side force_e.now.cells (value_at force_e.now) (triple point) }
-    ensures b { spot result.b
-        ≡ gathered_b force_b.now.side force_b.now.cells (value_at force_b.now) (triple point) }
-    ensures size_e { AreAtMost (spot result.e) most_force }
-    ensures size_b { AreAtMost (spot result.b) most_force }
+    requires most { most ≤ 2 ^ 62 }
+    ensures e { IfSome result (λ g. spot g.e
+        ≡ gathered_e force_e.now.side force_e.now.cells (value_at force_e.now) (triple point)) }
+    ensures b { IfSome result (λ g. spot g.b
+        ≡ gathered_b force_b.now.side force_b.now.cells (value_at force_b.now) (triple point)) }
+    ensures some { let f = force_e.now in let g = force_b.now in
+        IsSome result
+        ↔ (AreAtMost (gathered_e f.side f.cells (value_at f) (triple point)) most
+        × AreAtMost (gathered_b g.side g.cells (value_at g) (triple point)) most) }
 {
     let cells = force_e.cells();
     let cube = Cube::of(cells.sub());
     let at = places_of(cells, point);
-    let weak = are_weak(force_e, at, weak) & are_weak(force_b, at, weak);
-    Gathered {
-        e: layered_components(force_e, cube, at.middles, at.nodes, weak),
-        b: layered_components(force_b, cube, at.nodes, at.middles, weak),
-    }
+    let e = weak_components(force_e, cube, at.middles, at.nodes, most)?;
+    let b = weak_components(force_b, cube, at.nodes, at.middles, most)?;
+    Some(Gathered { e, b })
 }
 
 /// The three components at a point, each by the sides `own` on its own axis, and by `others` on the
@@ -192,4 +184,64 @@ fn layered_components(
         layered_component(force, cube, Axis::Y, on_y, layers),
         layered_component(force, cube, Axis::Z, on_z, own_layers),
     ]
+}
+
+/// A component, where it is at most `most` in size.
+#[inline(always)]
+fn within(value: i64, most: u64) -> Option<i64>
+    requires { most ≤ 2 ^ 62 }
+    ensures value { IfSome result (λ v. v ≡ value) }
+    ensures some { IsSome result ↔ IsAtMost value most }
+{
+    let bound = most as i64;
+    if value < -bound {
+        return None;
+    }
+    if value > bound {
+        return None;
+    }
+    Some(value)
+}
+
+/// The three components at a point of a weak lattice, where none is above `most` in size.
+#[inline(always)]
+fn weak_components(
+    force: &Lattice,
+    cube: Cube,
+    own: Sides,
+    others: Sides,
+    most: u64,
+) -> Option<[i64; 3]>
+    requires weak { IsWeak force.now }
+    requires cube { IsCubeOf force.now.side cube }
+    requires side { force.now.side ≤ most_side }
+    requires small { AreForces force.now }
+    requires own { AreSidesOf force.now own }
+    requires others { AreSidesOf force.now others }
+    requires most { most ≤ 2 ^ 62 }
+    ensures value { IfSome result (λ g. Gathers force.now own others (spot g)) }
+    ensures size { IfSome result (λ g. AreAtMost (spot g) most) }
+    ensures some { IsWithinWhere force.now own others most (IsSome result) }
+{
+    let Sides { x, y, z } = others;
+    let layers = Layers {
+        low: force.layer(z.low),
+        high: force.layer(z.high),
+        weak: true,
+    };
+    let own_layers = Layers {
+        low: force.layer(own.z.low),
+        high: force.layer(own.z.high),
+        weak: true,
+    };
+    let at_x = Sides { x: own.x, y, z };
+    let at_y = Sides { x, y: own.y, z };
+    let at_z = Sides { x, y, z: own.z };
+    let in_x = within(layered_component(force, cube, Axis::X, at_x, layers), most)?;
+    let in_y = within(layered_component(force, cube, Axis::Y, at_y, layers), most)?;
+    let in_z = within(
+        layered_component(force, cube, Axis::Z, at_z, own_layers),
+        most,
+    )?;
+    Some([in_x, in_y, in_z])
 }

@@ -33,19 +33,15 @@ pub fn is_weak(force: &Lattice) -> bool
 }
 
 /// Whether all layers of z that a point's places lie in are known to be weak, in cells of few
-/// enough sub-cells. It asks for none of them where `all` says that the whole lattice is weak.
+/// enough sub-cells.
 #[inline(always)]
-pub(crate) fn are_weak(force: &Lattice, at: Places, all: bool) -> bool
-    requires all { IsTrue all → IsWeak force.now }
+pub(crate) fn are_weak(force: &Lattice, at: Places) -> bool
     requires parts { force.now.parts ≡ layered force.now.cells }
     requires nodes { IsPair force.now.side force.now.cells.z at.nodes.z }
     requires middles { IsPair force.now.side force.now.cells.z at.middles.z }
     ensures nodes { IsTrue result → AreWeakLayers force.now at.nodes.z }
     ensures middles { IsTrue result → AreWeakLayers force.now at.middles.z }
 {
-    if all {
-        return true;
-    }
     let few = force.cells().sub().side() <= MAX_WEAK_SIDE;
     few & are_weak_at(force, at.nodes.z) & are_weak_at(force, at.middles.z)
 }

@@ -11,7 +11,7 @@ ghost use Rattle.pic_grid.specs.PushPhase.{CanShare};
 ghost use Rattle.pic_gather.specs.Forces.{AreForces};
 ghost use Rattle.pic_gather.specs.Weak.{IsWeak};
 
-use pic_boris::{Moved, push_narrow};
+use pic_boris::{MAX_SMALL_FIELD, Moved, push_narrow};
 use pic_gather::{Gathered, gather_weak, is_weak};
 use pic_grid::Lattice;
 use pic_num::{Kind, Particle, Sub};
@@ -48,7 +48,7 @@ pub(crate) fn feel(
     ensures limits { IfSome result (IsInLimits sub) }
 {
     let kind = kinds[particle.species as usize];
-    let Gathered { e, b } = gather_weak(force_e, force_b, particle.x);
+    let Gathered { e, b } = gather_weak(force_e, force_b, particle.x, MAX_SMALL_FIELD)?;
     push_narrow(sub, particle.v, e, b, kind.kick, kind.turn)
 }
 

@@ -28,6 +28,12 @@ use pic_grid::Stop;
 use pic_num::Particle;
 use pic_tile::{Frame, Parcel, Tile};
 
+/// The number of the way of most particles, whose push is narrow.
+const NARROW: u32 = 0;
+
+/// The number of the way of all others.
+const WIDE: u32 = 1;
+
 /// A particle's new velocity and its move in a frame, where `weak` says that all force values are
 /// weak and the numbers of its push are small; else `None`, which says nothing.
 #[inline(always)]
@@ -56,7 +62,14 @@ fn feel_in(frame: &Frame, weak: bool, particle: &Particle) -> Option<Moved>
 /// Moves a particle that doesn't halt: its flux goes into all parcels of its tile, and it into that
 /// of the direction in which it leads. Most stay in their tile.
 #[inline(always)]
-fn follow(frame: &Frame, zone: Zone, node: Box<Node>, by: &Moved, tile: &mut Tile, own: &mut Parcel)
+fn follow<const WAY: u32>(
+    frame: &Frame,
+    zone: Zone,
+    node: Box<Node>,
+    by: &Moved,
+    tile: &mut Tile,
+    own: &mut Parcel,
+)
     requires of { IsOfTile frame.now.map frame.now.kinds tile.old.number (particle_of node.value) }
     requires low { spot zone.low ≡ lowest_cell frame.now.map tile.old.number }
     requires size { triple zone.size ≡ frame.now.map.size }
@@ -70,7 +83,7 @@ fn follow(frame: &Frame, zone: Zone, node: Box<Node>, by: &Moved, tile: &mut Til
         SendsOut w frame.now.map (particle_of node.value) tile.old tile.new }
 {
     let path = path_of(frame, &node.particle(), by);
-    send_flux(&path, zone, tile, own);
+    send_flux::<WAY>(&path, zone, tile, own);
     let end = path.end();
     let (sub, cells) = (frame.cells().sub(), frame.cells());
     let mut node = node;
@@ -119,7 +132,7 @@ fn push_node_wide(frame: &Frame, node: Box<Node>, tile: &mut Tile, own: &mut Par
 {
     let zone = own.flux.zone();
     match feel_alone(frame, &node.particle()) {
-        Ok(by) => follow(frame, zone, node, &by, tile, own),
+        Ok(by) => follow::<WIDE>(frame, zone, node, &by, tile, own),
         Err(halt) => stay(node, halt, own),
     }
 }
@@ -147,7 +160,7 @@ pub(crate) fn push_node(
         SendsOut w frame.now.map (particle_of node.value) tile.old tile.new }
 {
     match feel_in(frame, weak, &node.particle()) {
-        Some(by) => follow(frame, zone, node, &by, tile, own),
+        Some(by) => follow::<NARROW>(frame, zone, node, &by, tile, own),
         None => push_node_wide(frame, node, tile, own),
     }
 }

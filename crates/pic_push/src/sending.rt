@@ -141,8 +141,9 @@ fn send_track(sub: Sub, track: &Track, q: i32, zone: Zone, tile: &mut Tile, own:
 
 /// Adds the flux of a path to all parcels of a tile, of which that of no step is held apart. Most
 /// paths stay in a cell.
+// Each `WAY` is compiled by itself, so that the way of most particles has it in its own code.
 #[inline(always)]
-pub(crate) fn send_flux(path: &Path, zone: Zone, tile: &mut Tile, own: &mut Parcel)
+pub(crate) fn send_flux<const WAY: u32>(path: &Path, zone: Zone, tile: &mut Tile, own: &mut Parcel)
     requires path { IsPath path.now }
     requires open { HasParcels (spot zone.low) (triple zone.size) tile.old }
     requires room { HasHeadroom (spot zone.low) (triple zone.size) here own.old }

@@ -19,9 +19,9 @@ returns-clause-pushed c =
     let number = particle.species in
     let kind : c.index-kinds-particle.result ≡ kind_of kinds particle =
     get_or_read kinds number c.index-kinds-particle.result c.requires.can.species c.index-kinds-particle.is no_kind in
-    let at_e = c.gather_weak.ensures.e in
-    let at_b = c.gather_weak.ensures.b ∙ (λ i. gathered_b (c.requires.sides i) (c.requires.cells i) (value_at b) (triple particle.x)) in
-    let told : pushed c.args.sub (spot particle.v) (spot c.gather_weak.result.e) (spot c.gather_weak.result.b)
+    let at_e = c.in_ok-e.ensures.e in
+    let at_b = c.in_ok-e.ensures.b ∙ (λ i. gathered_b (c.requires.sides i) (c.requires.cells i) (value_at b) (triple particle.x)) in
+    let told : pushed c.args.sub (spot particle.v) (spot c.in_ok-e.field-0.e) (spot c.in_ok-e.field-0.b)
     c.index-kinds-particle.result.kick c.index-kinds-particle.result.turn
     ≡ push_of (felt kinds c.args.force_e.now b) particle =
     λ i. pushed (c.requires.side i) (spot particle.v) (at_e i) (at_b i) (kind i).kick (kind i).turn in

@@ -19,9 +19,10 @@ use Rattle.pic_push.proofs.SendLaws.{after_is, leads_by, receives_none, some_gai
 use Rattle.pic_push.proofs.StayLaws.{end_stays}
 use Rattle.pic_push.proofs.node_push.follow.Goals as goal
 use Rattle.pic_push.proofs.node_push.follow.Goals.{After-is_here}
+use Rattle.pic_push.proofs.node_push.follow.Given.{Over}
 
 -- what is known where the flux has been sent
-record Known (c : After-is_here) : Type 0 where
+record Known (g : Over) (c : After-is_here g) : Type 0 where
   path : IsPathOf (felt_in c.args.frame.now) (particle_of c.args.node.value) (shift_of c.args.by.now) c.path_of-path.result
   own : (felt_in c.args.frame.now).side ≡ c.args.frame.now.map.side
   side : c.sub-sub.result ≡ c.args.frame.now.map.side
@@ -31,8 +32,8 @@ record Known (c : After-is_here) : Type 0 where
   moves : (p q : Particle) → q ≡ particle_of c.args.node.value → p ≡ moved c.sub-sub.result c.cells-cells.result.n q (shift_of c.args.by.now)
       → p ≡ after_its_push (felt_in c.args.frame.now) (particle_of c.args.node.value)
 
-known : (c : After-is_here) → Known c
-known c =
+known : (g : Over) → (c : After-is_here g) → Known g c
+known g c =
     let f = c.args.frame.now in
     let w = felt_in f in
     let s = shift_of c.args.by.now in
@@ -57,13 +58,13 @@ known c =
 -- One that stays in its tile.
 
 pub advance_within-requires-clause-to : goal.advance_within-requires-clause-to
-advance_within-requires-clause-to c =
+advance_within-requires-clause-to g c =
     let f = c.args.frame.now in
     let s = shift_of c.args.by.now in
     let x = particle_of c.args.node.value in
     let sub = c.sub-sub.result in
     let n = c.cells-cells.result.n in
-    let k = known (goal.at.advance_within-requires-clause-to c).After-is_here in
+    let k = known g (goal.at.advance_within-requires-clause-to g c).After-is_here in
     let end = end_stays (felt_in f) f.map x s c.path_of-path.result c.args.tile.now.number (spot c.args.zone.low) (triple c.args.zone.size)
     (spot c.end-end.result) (let least = c.sound.ensures.least in omega (arith, least)) c.sound.ensures.map.thick c.requires.of.can.place k.path k.own
     c.requires.of.tile_is c.requires.low c.requires.size c.end-end.ensures (c.is_here.ensures c.if-is_here.true) in
@@ -72,11 +73,11 @@ advance_within-requires-clause-to c =
     (subst (λ (r : ℕ). StaysInBox r (cells_of f.map) (plus (unwrapped (triple x.x)) s.d)) (sym k.side) end))
 
 pub returns-then-is_here-clause-own : goal.returns-then-is_here-clause-own
-returns-then-is_here-clause-own c =
+returns-then-is_here-clause-own g c =
     let f = c.args.frame.now in
     let w = felt_in f in
     let x = particle_of c.args.node.value in
-    let k = known (goal.at.returns-then-is_here-clause-own c).After-is_here in
+    let k = known g (goal.at.returns-then-is_here-clause-own g c).After-is_here in
     let leads = k.leads here (here_is f.map c.args.tile.now.number (spot c.args.zone.low) (triple c.args.zone.size) (spot c.end-end.result) c.requires.low
     (c.is_here.ensures c.if-is_here.true)) in
     let y = particle_of c.advance_within.new.node in
@@ -86,10 +87,10 @@ returns-then-is_here-clause-own c =
     c.send_flux.ensures.own)
 
 pub returns-then-is_here-clause-others : goal.returns-then-is_here-clause-others
-returns-then-is_here-clause-others c =
+returns-then-is_here-clause-others g c =
     let f = c.args.frame.now in
     let x = particle_of c.args.node.value in
-    let k = known (goal.at.returns-then-is_here-clause-others c).After-is_here in
+    let k = known g (goal.at.returns-then-is_here-clause-others g c).After-is_here in
     let leads = k.leads here (here_is f.map c.args.tile.now.number (spot c.args.zone.low) (triple c.args.zone.size) (spot c.end-end.result) c.requires.low
     (c.is_here.ensures c.if-is_here.true)) in
     let y = particle_of c.advance_within.new.node in
@@ -101,19 +102,19 @@ returns-then-is_here-clause-others c =
 -- One that may leave it.
 
 pub lead-requires-clause-apart : goal.lead-requires-clause-apart
-lead-requires-clause-apart c = c.send_flux.ensures.others.none here (omega arith) c.requires.open.apart
+lead-requires-clause-apart g c = c.send_flux.ensures.others.none here (omega arith) c.requires.open.apart
 
 pub lead-requires-clause-whole : goal.lead-requires-clause-whole
-lead-requires-clause-whole c = λ other.
+lead-requires-clause-whole g c = λ other.
     some_gained (flux_along c.path_of-path.result) c.args.tile.now c.send_flux.new.tile c.way_to.result c.send_flux.ensures.others c.way_to.ensures.below
     (c.requires.open.whole c.way_to.result c.way_to.ensures.below other)
 
 pub returns-clause-own : goal.returns-clause-own
-returns-clause-own c =
+returns-clause-own g c =
     let f = c.args.frame.now in
     let w = felt_in f in
     let x = particle_of c.args.node.value in
-    let k = known (goal.at.returns-clause-own c).After-is_here in
+    let k = known g (goal.at.returns-clause-own g c).After-is_here in
     let y = particle_of c.advance.new.node in
     let moves = k.moves y (particle_of c.deref_mut-2.result.now) (ap particle_of c.deref_mut-2.ensures.value) c.advance.ensures in
     subst (λ (q : Parcel). Sends w f.map x here c.args.own.now q) (sym c.lead.ensures.own)
@@ -121,10 +122,10 @@ returns-clause-own c =
     (k.leads c.way_to.result c.way_to.ensures.value) moves c.send_flux.ensures.own)
 
 pub returns-clause-others : goal.returns-clause-others
-returns-clause-others c =
+returns-clause-others g c =
     let f = c.args.frame.now in
     let x = particle_of c.args.node.value in
-    let k = known (goal.at.returns-clause-others c).After-is_here in
+    let k = known g (goal.at.returns-clause-others g c).After-is_here in
     let y = particle_of c.advance.new.node in
     let moves = k.moves y (particle_of c.deref_mut-2.result.now) (ap particle_of c.deref_mut-2.ensures.value) c.advance.ensures in
     sends_out (felt_in f) f.map x y (shift_of c.args.by.now) c.path_of-path.result c.way_to.result c.args.tile.now c.send_flux.new.tile c.lead.new.tile

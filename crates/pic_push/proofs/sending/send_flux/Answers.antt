@@ -17,16 +17,16 @@ use Rattle.pic_push.proofs.TrackLaws.{layers_more, open_more}
 use Rattle.pic_push.proofs.sending.send_flux.Goals as goal
 
 pub send_piece-requires-clause-open : goal.send_piece-requires-clause-open
-send_piece-requires-clause-open c = open_more (spot c.args.zone.low) (triple c.args.zone.size) c.args.tile.now c.requires.open
+send_piece-requires-clause-open g c = open_more (spot c.args.zone.low) (triple c.args.zone.size) c.args.tile.now c.requires.open
 
 pub send_piece-requires-clause-room : goal.send_piece-requires-clause-room
-send_piece-requires-clause-room c = layers_more (spot c.args.zone.low) (triple c.args.zone.size) here c.args.own.now c.requires.room
+send_piece-requires-clause-room g c = layers_more (spot c.args.zone.low) (triple c.args.zone.size) here c.args.own.now c.requires.room
 
 pub send_track-requires-clause-inside : goal.send_track-requires-clause-inside
-send_track-requires-clause-inside c = pieces_inside c.args.path.now.sub c.split-track.ensures.leads
+send_track-requires-clause-inside g c = pieces_inside c.args.path.now.sub c.split-track.ensures.leads
 
 pub send_track-requires-clause-short : goal.send_track-requires-clause-short
-send_track-requires-clause-short c =
+send_track-requires-clause-short g c =
     let p = c.args.path.now in
     let fits : SFits w32 p.charge = search rules in
     λ k. subst (λ (q : ℤ). IsFluxAtMost (2 ^ 62) (path_flux p.sub q (take k c.split-track.result))) (sym (to_z-of_z w32 p.charge fits))
@@ -34,7 +34,7 @@ send_track-requires-clause-short c =
     (omega (arith, c.side-side.ensures)) c.split-track.ensures.value c.requires.path.by c.requires.path.charge k)
 
 pub returns-in-Some-clause-own : goal.returns-in-Some-clause-own
-returns-in-Some-clause-own c =
+returns-in-Some-clause-own g c =
     let p = c.args.path.now in
     let fits : SFits w32 p.charge = search rules in
     let one = sym c.lone.ensures.piece ∙ c.in-Some.is in
@@ -43,7 +43,7 @@ returns-in-Some-clause-own c =
     ∙ sym (lone_flux p.sub p.charge (path p.sub (unwrapped (triple p.from)) (spot p.by)) c.in-Some.piece a e one)) c.send_piece.ensures.own
 
 pub returns-in-Some-clause-others : goal.returns-in-Some-clause-others
-returns-in-Some-clause-others c =
+returns-in-Some-clause-others g c =
     let p = c.args.path.now in
     let fits : SFits w32 p.charge = search rules in
     let one = sym c.lone.ensures.piece ∙ c.in-Some.is in
@@ -52,7 +52,7 @@ returns-in-Some-clause-others c =
     ∙ sym (lone_flux p.sub p.charge (path p.sub (unwrapped (triple p.from)) (spot p.by)) c.in-Some.piece a e one)) c.send_piece.ensures.others
 
 pub returns-in-None-clause-others : goal.returns-in-None-clause-others
-returns-in-None-clause-others c =
+returns-in-None-clause-others g c =
     let p = c.args.path.now in
     let fits : SFits w32 p.charge = search rules in
     let charge = to_z-of_z w32 p.charge fits in

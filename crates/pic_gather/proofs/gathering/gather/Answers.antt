@@ -1,7 +1,7 @@
 use Rattle.std.proofs.Common.{sym, ◌∙◌}
 use Rattle.pic_num.specs.Space.{triple}
 use Rattle.pic_gather.proofs.PlaceLaws.{e_is, b_is}
-use Rattle.pic_gather.proofs.gathering.gather_layered.Goals as goal
+use Rattle.pic_gather.proofs.gathering.gather.Goals as goal
 
 pub returns-clause-e : goal.returns-clause-e
 returns-clause-e c =
