@@ -1,6 +1,6 @@
 //! Worked rows of the push.
 
-use pic_boris::{Halt, Moved, push};
+use pic_boris::{Halt, Moved, push, push_narrow};
 use pic_num::{Axis, Mult, Sub, What};
 use std::process::Abort;
 
@@ -11,48 +11,56 @@ const NONE: (i32, u32) = (0, 0);
 
 const ONE: (i32, u32) = (1, 0);
 
-// A push that ends, and its velocity and its move. The last rows are the definition's answers, by a
-// program in whole numbers of any size.
-const MOVES: [(Push, [i32; 3], [i32; 3]); 12] = [
+// A push that ends, its velocity and its move, and whether its numbers are small. The last rows are
+// the definition's answers, by a program in whole numbers of any size.
+const MOVES: [(Push, [i32; 3], [i32; 3], bool); 12] = [
     (
         (12, [1000, 0, 0], [0; 3], [0, 0, 1048576], NONE, ONE),
         [0, -1000, 0],
         [0; 3],
+        false,
     ),
     (
         (12, [1000, 0, 0], [0; 3], [0, 0, 1], NONE, ONE),
         [1000, 0, 0],
         [0; 3],
+        true,
     ),
     (
         (12, [16779263, 0, 0], [0; 3], [0; 3], ONE, ONE),
         [16779263, 0, 0],
         [4096, 0, 0],
+        true,
     ),
     (
         (12, [0, 0, -16779264], [0; 3], [0; 3], ONE, ONE),
         [0, 0, -16779264],
         [0, 0, -4096],
+        true,
     ),
     (
         (12, [0; 3], [0; 3], [0, 0, 16777216], ONE, ONE),
         [0; 3],
         [0; 3],
+        false,
     ),
     (
         (8, [1050623, 0, 0], [0; 3], [0; 3], ONE, ONE),
         [1050623, 0, 0],
         [256, 0, 0],
+        true,
     ),
     (
         (8, [0, -1050624, 0], [0; 3], [0; 3], ONE, ONE),
         [0, -1050624, 0],
         [0, -256, 0],
+        true,
     ),
     (
         (14, [0, 0, 67110911], [0; 3], [0; 3], ONE, ONE),
         [0, 0, 67110911],
         [0, 0, 16384],
+        false,
     ),
     (
         (
@@ -65,6 +73,7 @@ const MOVES: [(Push, [i32; 3], [i32; 3]); 12] = [
         ),
         [4925309, -3109591, 267910],
         [1202, -759, 65],
+        true,
     ),
     (
         (
@@ -77,6 +86,7 @@ const MOVES: [(Push, [i32; 3], [i32; 3]); 12] = [
         ),
         [4919498, -2361009, 2055280],
         [1201, -576, 502],
+        false,
     ),
     (
         (
@@ -89,6 +99,7 @@ const MOVES: [(Push, [i32; 3], [i32; 3]); 12] = [
         ),
         [5307587, -1173178, 2110255],
         [1296, -286, 515],
+        false,
     ),
     (
         (
@@ -101,6 +112,7 @@ const MOVES: [(Push, [i32; 3], [i32; 3]); 12] = [
         ),
         [12883270, -3685306, -1502493],
         [3145, -900, -367],
+        true,
     ),
 ];
 
@@ -181,22 +193,24 @@ const HALTS: [(Push, What, Axis, i128); 11] = [
     ),
 ];
 
-fn pushed(rt: &impl Abort, row: &Push) -> Result<Moved, Halt> {
+// The push of a row, and what is answered where its numbers are small.
+fn pushed(rt: &impl Abort, row: &Push) -> (Result<Moved, Halt>, Option<Moved>) {
     let (bits, v, e, b, (kick, kick_by), (turn, turn_by)) = *row;
     let sub = Sub::new(bits).expect(rt, "a side");
     let kick = Mult::try_new(kick, kick_by).expect(rt, "a multiplier");
     let turn = Mult::try_new(turn, turn_by).expect(rt, "a multiplier");
-    push(sub, v, e, b, kick, turn)
-}
-
-fn moved(v: [i32; 3], d: [i32; 3]) -> Result<Moved, Halt> {
-    Ok(Moved { v, d })
+    (
+        push(sub, v, e, b, kick, turn),
+        push_narrow(sub, v, e, b, kick, turn),
+    )
 }
 
 #[test]
 fn a_push_ends_with_a_velocity_and_a_move(rt: HostRuntime) {
-    for (row, v, d) in &MOVES {
-        assert_eq!(rt; pushed(&rt, row), moved(*v, *d), "{row:?}");
+    for (row, v, d, small) in &MOVES {
+        let moved = Moved { v: *v, d: *d };
+        let narrow = if *small { Some(moved) } else { None };
+        assert_eq!(rt; pushed(&rt, row), (Ok(moved), narrow), "{row:?}");
     }
 }
 
@@ -208,6 +222,6 @@ fn the_first_test_that_fails_answers(rt: HostRuntime) {
             axis: *axis,
             value: *value,
         };
-        assert_eq!(rt; pushed(&rt, row), Err(halt), "{row:?}");
+        assert_eq!(rt; pushed(&rt, row), (Err(halt), None), "{row:?}");
     }
 }

@@ -1,115 +1,23 @@
 //! Worked steps of E and B, their stops, and force values.
 
 ghost use Rattle.std.specs.Prelude.{◌≡◌, ◌^◌, IfOk};
-ghost use Rattle.pic_num.specs.Sizes.{IsAtMost};
 ghost use Rattle.pic_num.specs.Space.{triple, spot};
-ghost use Rattle.pic_block.specs.Cells.{IsCells, IsWithin};
-ghost use Rattle.pic_block.specs.Block.{InZone, IsAmongCells, IsShaped, AllAtMost};
-ghost use Rattle.pic_grid.specs.Lattice.{EachAtMost, IsParts};
+ghost use Rattle.pic_block.specs.Cells.{IsCells};
+ghost use Rattle.pic_block.specs.Block.{IsAmongCells};
 
+use crate::values::{Edge, MAX_DRIVE, MAX_VALUE, Value, block_of, lattice_in, lattice_of, read};
 use pic_block::{Block, Zone};
 use pic_field::{Rooms, both_halves_in, force, free_e_in, full_e, full_e_in, half_b};
-use pic_grid::{Bound, Cells, Lattice, Phase, Stop};
-use pic_num::{Axis, Mult, NoMemory, Scales, Sub};
+use pic_grid::{Bound, Phase, Stop};
+use pic_num::{Axis, Mult, NoMemory, Scales};
 use std::alloc::Global;
 use std::process::Abort;
-
-// a value of a lattice, and one of a block
-type Value = (Axis, [u32; 3], i128);
-
-type Edge = (Axis, [i32; 3], i128);
-
-// The greatest size of a value, and of one that drives B.
-const MAX_VALUE: u128 = 1 << 90;
-
-const MAX_DRIVE: u128 = 1 << 64;
 
 // the second and the third layer of z, of four by four cells
 const TWO_LAYERS: Zone = Zone {
     low: [0, 0, 1],
     size: [4, 4, 2],
 };
-
-// A lattice of zeros in so many parts but for these values, as far as they are at most `most` in size.
-fn lattice_in(
-    alloc: Global,
-    n: [u32; 3],
-    parts: [u32; 3],
-    most: u128,
-    values: &[Value],
-) -> Result<Lattice, NoMemory>
-    requires cells { IsCells (triple n) }
-    requires parts { IsParts (triple n) (triple parts) }
-    ensures cells { IfOk result (λ f. f.cells ≡ triple n) }
-    ensures small { IfOk result (EachAtMost most) }
-{
-    let mut field = Lattice::new(alloc, Cells::new(n, Sub::of_bits(12)), parts)?;
-    for (axis, cell, value) in values {
-        put(&mut field, most, *axis, *cell, *value);
-    }
-    Ok(field)
-}
-
-// The same in one part.
-fn lattice_of(alloc: Global, n: [u32; 3], most: u128, values: &[Value]) -> Result<Lattice, NoMemory>
-    requires { IsCells (triple n) }
-    ensures cells { IfOk result (λ f. f.cells ≡ triple n) }
-    ensures small { IfOk result (EachAtMost most) }
-{
-    lattice_in(alloc, n, [1; 3], most, values)
-}
-
-fn put(field: &mut Lattice, most: u128, axis: Axis, cell: [u32; 3], value: i128)
-    requires { EachAtMost most field.old }
-    ensures cells { field.new.cells ≡ field.old.cells }
-    ensures small { EachAtMost most field.new }
-{
-    let [nx, ny, nz] = field.cells().numbers();
-    let [x, y, z] = cell;
-    if x >= nx || y >= ny || z >= nz {
-        return;
-    }
-    if value.unsigned_abs() > most {
-        return;
-    }
-    field.set(axis, cell, value);
-}
-
-// A block of zeros but for these values.
-fn block_of(alloc: Global, zone: Zone, values: &[Edge]) -> Result<Block, NoMemory>
-    ensures low { IfOk result (λ b. b.low ≡ spot zone.low) }
-    ensures size { IfOk result (λ b. b.size ≡ triple zone.size) }
-    ensures small { IfOk result (AllAtMost (2 ^ 90)) }
-{
-    let mut block = Block::new(alloc, zone)?;
-    for (axis, cell, value) in values {
-        put_edge(&mut block, *axis, *cell, *value);
-    }
-    Ok(block)
-}
-
-fn put_edge(block: &mut Block, axis: Axis, cell: [i32; 3], value: i128)
-    requires { AllAtMost (2 ^ 90) block.old }
-    ensures shape { IsShaped block.new block.old }
-    ensures small { AllAtMost (2 ^ 90) block.new }
-{
-    if !block.has(cell) {
-        return;
-    }
-    if value.unsigned_abs() > 1 << 90 {
-        return;
-    }
-    block.set(axis, cell, value);
-}
-
-// the value of a block at a cell of its zone
-fn read(block: &Block, axis: Axis, cell: [i32; 3]) -> i128 {
-    if block.has(cell) {
-        block.at(axis, cell)
-    } else {
-        0
-    }
-}
 
 // A step of E from zeros on all cells, by values of B, of what drives it and of the current.
 fn full_step(

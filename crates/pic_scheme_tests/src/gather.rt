@@ -1,12 +1,12 @@
 //! Tests of the gather on worked numbers.
 
-ghost use Rattle.std.specs.Prelude.{◌≡◌, IsTrue, IfOk};
+ghost use Rattle.std.specs.Prelude.{◌≡◌, ◌^◌, ◌≤◌, IsTrue, IfOk};
 ghost use Rattle.pic_num.specs.Space.{triple};
 ghost use Rattle.pic_grid.specs.Hat.{IsInBox};
 ghost use Rattle.pic_grid.specs.Lattice.{IsParts};
 ghost use Rattle.pic_gather.specs.Forces.{AreForces};
 
-use pic_gather::{Gathered, gather, gather_b, gather_e};
+use pic_gather::{Gathered, gather, gather_b, gather_e, gather_weak, is_weak};
 use pic_grid::{Cells, Lattice};
 use pic_num::{Axis, NoMemory, Sub};
 use std::alloc::Global;
@@ -141,5 +141,61 @@ fn every_part_is_gathered_alike(rt: HostRuntime) {
         check_alike(&rt, [1, 1, 2], point, x, y);
         check_alike(&rt, [2, 1, 2], point, x, y);
         check_alike(&rt, [2, 2, 2], point, x, y);
+    }
+}
+
+// The same lattice of two layers, once each is measured.
+fn measured(force: Lattice) -> Lattice
+    requires { force.parts ≡ record { x = 1; y = 1; z = 2 } }
+    ensures { result ≡ force }
+{
+    let cells = force.cells();
+    let mut blocks = force.into_blocks();
+    blocks[0].measure();
+    blocks[1].measure();
+    Lattice::of_blocks(cells, [1, 1, 2], blocks)
+}
+
+// Gathers at a point from measured lattices of 2 by 2 by 2 cells with an 8 in the first cell, on x
+// of E and on y of B, where nothing is above `most` in size.
+fn gathered_weak(rt: &(impl AllocGlobal + Abort), point: [u32; 3], most: u64) -> Option<Gathered>
+    requires { most ≤ 2 ^ 62 }
+{
+    let sub = Sub::of_bits(12);
+    assert!(rt; is_in_box(Cells::new([2, 2, 2], sub), point));
+    let e = measured(eight_in(rt.alloc(), sub, [1, 1, 2], Axis::X).expect(rt, "memory"));
+    let b = measured(eight_in(rt.alloc(), sub, [1, 1, 2], Axis::Y).expect(rt, "memory"));
+    assert!(rt; is_weak(&e) && is_weak(&b));
+    gather_weak(&e, &b, point, most)
+}
+
+#[test]
+fn weak_values_are_gathered_where_none_is_too_large(rt: HostRuntime) {
+    for (point, x, y) in [
+        ([0, 0, 0], 4, 2),
+        ([2048, 0, 0], 8, 4),
+        ([8191, 4095, 0], 0, 0),
+        ([5000, 100, 8191], 2, 1),
+    ] {
+        let all = Gathered {
+            e: [x, 0, 0],
+            b: [0, y, 0],
+        };
+        let found = gathered_weak(&rt, point, x as u64);
+        assert_eq!(rt; found, Some(all), "{point:?}");
+    }
+    for (point, most) in [([0, 0, 0], 3), ([2048, 0, 0], 7), ([5000, 100, 8191], 1)] {
+        let found = gathered_weak(&rt, point, most);
+        assert_eq!(rt; found, None, "{point:?}");
+    }
+}
+
+#[test]
+fn a_lattice_is_weak_once_it_is_measured_where_cells_are_small(rt: HostRuntime) {
+    for (bits, weak) in [(8, true), (12, true), (13, false)] {
+        let sub = Sub::of_bits(bits);
+        let force = eight_in(rt.alloc(), sub, [1, 1, 2], Axis::X).expect(&rt, "memory");
+        assert!(rt; !is_weak(&force), "{bits}");
+        assert_eq!(rt; is_weak(&measured(force)), weak, "{bits}");
     }
 }

@@ -13,3 +13,5 @@ mod field;
 mod filter;
 #[cfg(test)]
 mod gather;
+#[cfg(test)]
+mod values;

@@ -1,7 +1,7 @@
 use Rattle.std.proofs.Common.{◌≡◌, ◌^◌}
 use Rattle.pic_num.specs.Space.{triple, spot}
 use Rattle.pic_block.specs.Block.{AllAtMost}
-use Rattle.pic_scheme_tests.proofs.field.block_of.Given as goal
+use Rattle.pic_scheme_tests.proofs.values.block_of.Given as goal
 
 abbrev pub invariant-loop-axis : goal.invariant-loop-axis
 invariant-loop-axis l = record {

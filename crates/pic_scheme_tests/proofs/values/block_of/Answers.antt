@@ -1,7 +1,7 @@
 use Rattle.std.proofs.Common.{◌^◌, sym, ap, subst}
 use Rattle.pic_block.specs.Block.{BlockValues, AllAtMost}
 use Rattle.pic_grid.proofs.SmallLaws.{all_zeros}
-use Rattle.pic_scheme_tests.proofs.field.block_of.Goals as goal
+use Rattle.pic_scheme_tests.proofs.values.block_of.Goals as goal
 
 pub loop-axis-init : goal.loop-axis-init
 loop-axis-init c = record {

@@ -2,7 +2,7 @@ use Rattle.std.proofs.Common.{sym, ◌∙◌, ap, subst}
 use Rattle.pic_block.specs.Cells.{Grid}
 use Rattle.pic_grid.specs.Lattice.{Field, EachAtMost}
 use Rattle.pic_grid.proofs.SmallLaws.{each_zeros}
-use Rattle.pic_scheme_tests.proofs.field.lattice_in.Goals as goal
+use Rattle.pic_scheme_tests.proofs.values.lattice_in.Goals as goal
 
 pub loop-axis-init : goal.loop-axis-init
 loop-axis-init c = record {

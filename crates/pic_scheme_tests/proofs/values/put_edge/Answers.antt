@@ -4,7 +4,7 @@ use mir.Syntax.{w128}
 use Rattle.pic_num.specs.Sizes.{IsAtMost}
 use Rattle.pic_block.specs.Block.{AllAtMost}
 use Rattle.pic_grid.proofs.SmallLaws.{all_with}
-use Rattle.pic_scheme_tests.proofs.field.put_edge.Goals as goal
+use Rattle.pic_scheme_tests.proofs.values.put_edge.Goals as goal
 
 pub returns-clause-small : goal.returns-clause-small
 returns-clause-small c =
