@@ -1,16 +1,13 @@
 -- The pushes whose numbers are small, which are computed in 64 bits.
-use Rattle.std.specs.Prelude.{ℕ, ◌^◌, ◌≤◌}
+use Rattle.std.specs.Prelude.{ℕ, ◌^◌}
 use Rattle.pic_num.specs.Multiplier.{Multiplier}
 use Rattle.pic_num.specs.Push.{each, plus}
 use Rattle.pic_num.specs.Rounding.{scaled}
 use Rattle.pic_num.specs.Space.{Spot, AreAtMost}
 
--- a gathered field is small up to 2^28 in size by axis, its multiplier's power up to 60
+-- a gathered field is small up to 2^28 in size by axis
 abbrev pub most_small_field : ℕ
 most_small_field = 2 ^ 28
-
-abbrev pub most_small_shift : ℕ
-most_small_shift = 60
 
 -- a velocity after half of the kick is small up to 2^26 in size by axis, a turn up to 2^19
 abbrev pub most_small_speed : ℕ
@@ -19,14 +16,9 @@ most_small_speed = 2 ^ 26
 abbrev pub most_small_turn : ℕ
 most_small_turn = 2 ^ 19
 
--- a gathered field and the multiplier that scales it are small
-pub record IsSmallField (field : Spot) (by : Multiplier) : Type 0 where
-  pub size : AreAtMost field most_small_field
-  pub shift : by.k ≤ most_small_shift
-
 -- the numbers of a push are small: both fields, the velocity after half of the kick, and the turn
 pub record IsSmallPush (v e b : Spot) (kick turn : Multiplier) : Type 0 where
-  pub electric : IsSmallField e kick
-  pub magnetic : IsSmallField b turn
+  pub electric : AreAtMost e most_small_field
+  pub magnetic : AreAtMost b most_small_field
   pub speed : AreAtMost (plus v (each (λ c. scaled c kick) e)) most_small_speed
   pub turn_by : AreAtMost (each (λ c. scaled c turn) b) most_small_turn

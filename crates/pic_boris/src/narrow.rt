@@ -1,6 +1,6 @@
 //! Three whole numbers of 64 bits by axis, and what the push computes with them.
 
-ghost use Rattle.std.specs.Prelude.{◌≡◌, pos, ◌^◌, ◌-◌, ◌≤◌, ◌+ℤ◌, ◌-ℤ◌, ◌*ℤ◌, ◌↔◌, IsTrue, unsigned_abs};
+ghost use Rattle.std.specs.Prelude.{◌≡◌, pos, ◌^◌, ◌-◌, ◌≤◌, ◌+ℤ◌, ◌-ℤ◌, ◌*ℤ◌, unsigned_abs};
 ghost use Rattle.pic_num.specs.Push.{each, plus, cross};
 ghost use Rattle.pic_num.specs.Rounding.{rounded, scaled};
 ghost use Rattle.pic_num.specs.Sizes.{IsAtMost};
@@ -15,19 +15,6 @@ pub(crate) struct Narrow {
     pub(crate) x: i64,
     pub(crate) y: i64,
     pub(crate) z: i64,
-}
-
-/// Whether a number is at most `most` in size: two comparisons, which the compiler makes one of.
-#[inline(always)]
-pub(crate) fn is_at_most(n: i64, most: u64) -> bool
-    requires { most ≤ 2 ^ 62 }
-    ensures { IsTrue result ↔ IsAtMost n most }
-{
-    let most = most as i64;
-    if n < -most {
-        return false;
-    }
-    n <= most
 }
 
 /// The vector of three numbers.
@@ -47,8 +34,7 @@ pub(crate) fn narrow_of(v: [i32; 3]) -> Narrow
 /// `v` times a multiplier, rounded once.
 #[inline(always)]
 fn scale_narrow(v: i64, by: Mult) -> i64
-    requires v { IsAtMost v (2 ^ 28) }
-    requires by { by.k ≤ 60 }
+    requires { IsAtMost v (2 ^ 28) }
     ensures value { result ≡ scaled v by }
     ensures size { IsAtMost result (2 ^ 60) }
 {
@@ -60,8 +46,7 @@ fn scale_narrow(v: i64, by: Mult) -> i64
 /// The gathered field `field` times a multiplier, each component rounded once.
 #[inline(always)]
 pub(crate) fn scaled_narrow(field: [i64; 3], by: Mult) -> Narrow
-    requires field { AreAtMost (spot field) (2 ^ 28) }
-    requires by { by.k ≤ 60 }
+    requires { AreAtMost (spot field) (2 ^ 28) }
     ensures value { narrow_spot result ≡ each (λ c. scaled c by) (spot field) }
     ensures size { AreAtMost (narrow_spot result) (2 ^ 60) }
 {

@@ -7,18 +7,15 @@ ghost use Rattle.pic_num.specs.Rounding.{rounded};
 ghost use Rattle.pic_num.specs.Space.{spot, AreAtMost};
 ghost use Rattle.pic_boris.specs.Narrow.{narrow_spot};
 ghost use Rattle.pic_boris.specs.Pushes.{IsInLimits, shift_of, arrived};
-ghost use Rattle.pic_boris.specs.SmallPush.{IsSmallField, IsSmallPush};
+ghost use Rattle.pic_boris.specs.SmallPush.{most_small_field, IsSmallPush};
 
 use crate::moved::Moved;
-use crate::narrow::{Narrow, is_at_most, narrow_of, narrow_shift, narrow_sum, scaled_narrow};
+use crate::narrow::{Narrow, narrow_of, narrow_shift, narrow_sum, scaled_narrow};
 use crate::narrow_turning::narrow_turned;
-use pic_num::{Mult, Sub};
+use pic_num::{Mult, Sub, is_at_most};
 
 /// The most that a gathered value may be in size where a push is narrow.
 pub const MAX_SMALL_FIELD: u64 = 1 << 28;
-
-/// The most that a multiplier's power may be here.
-const MAX_SMALL_SHIFT: u32 = 60;
 
 /// The most that a velocity may be in size here, after half of the kick.
 const MAX_SMALL_SPEED: u64 = 1 << 26;
@@ -38,13 +35,13 @@ fn is_small(p: Narrow, most: u64) -> bool
     is_at_most(p.x, most) && is_at_most(p.y, most) && is_at_most(p.z, most)
 }
 
-/// Whether a gathered field and its multiplier are small.
+/// Whether a gathered field is small.
 #[inline(always)]
-fn is_small_field(field: [i64; 3], by: Mult) -> bool
-    ensures { IsTrue result ↔ IsSmallField (spot field) by }
+fn is_small_field(field: [i64; 3]) -> bool
+    ensures { IsTrue result ↔ AreAtMost (spot field) most_small_field }
 {
     let [x, y, z] = field;
-    by.k() <= MAX_SMALL_SHIFT && is_small(Narrow { x, y, z }, MAX_SMALL_FIELD)
+    is_small(Narrow { x, y, z }, MAX_SMALL_FIELD)
 }
 
 /// The move of a velocity, in sub-cells.
@@ -104,7 +101,7 @@ pub fn push_narrow(
         (λ m. pushed sub (spot v) (spot e) (spot b) kick turn ≡ Ok (shift_of m)) }
     ensures bounds { IfSome result (IsInLimits sub) }
 {
-    if !is_small_field(e, kick) || !is_small_field(b, turn) {
+    if !is_small_field(e) || !is_small_field(b) {
         return None;
     }
     let half_kick = scaled_narrow(e, kick);

@@ -7,9 +7,9 @@ ghost use Rattle.pic_num.specs.Sizes.{IsAtMost};
 ghost use Rattle.pic_num.specs.Space.{AreAtMost};
 ghost use Rattle.pic_boris.specs.Narrow.{narrow_spot};
 
-use crate::narrow::{Narrow, is_at_most, narrow_cross, narrow_shift, narrow_sum};
+use crate::narrow::{Narrow, narrow_cross, narrow_shift, narrow_sum};
 use crate::turning::{TURN_BITS, TWO};
-use pic_num::rdiv;
+use pic_num::{is_at_most, rdiv};
 
 /// One, squared, in units of a turn.
 const ONE_SQUARED: i64 = 1 << (2 * TURN_BITS);

@@ -48,8 +48,7 @@ pub(crate) fn fault(phase: Phase, by: Mult, axis: Axis, cell: [u32; 3], value: i
     None
 }
 
-/// A size up to which no value passes a bound: neither is it above 2^90 in size, nor is its force
-/// value above 2^44.
+/// A size up to which no value is above 2^90 in size, nor its force value above 2^44.
 pub(crate) fn safe_most(by: Mult) -> u128
     ensures { (v : ℤ) → IsAtMost v result → IsBounded by v }
 {

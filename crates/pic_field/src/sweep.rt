@@ -101,8 +101,7 @@ fn sweep_strips(step: &Sweep, b: &mut Block, rooms: &mut Rooms) -> bool
 }
 
 /// Sweeps over the lines of a strip, layer by layer. The layer beside each but the first was swept
-/// before it, so that a plane of scaled rows serves its own layer and then the one that reads it
-/// beside.
+/// before it, so that a plane of scaled rows serves two layers.
 #[inline(always)]
 fn sweep_strip(step: &Sweep, b: &mut Block, strip: Strip, rooms: &mut Rooms) -> bool
     requires among { IsAmongCells b.old.low b.old.size (sweep_cells step.now) }

@@ -5,3 +5,4 @@ pub mod MixLaws
 pub mod SameLaws
 pub mod LayeredLaws
 pub mod HalfLaws
+pub mod WordLaws

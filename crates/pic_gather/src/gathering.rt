@@ -19,7 +19,7 @@ use crate::layered::{Layers, layered_component};
 use crate::sides::{Sides, places_of};
 use crate::weak::are_weak;
 use pic_grid::Lattice;
-use pic_num::Axis;
+use pic_num::{Axis, is_at_most};
 
 /// The force values of E and of B at a point.
 #[derive(Clone, Copy, Debug, PartialEq, Eq)]
@@ -193,11 +193,7 @@ fn within(value: i64, most: u64) -> Option<i64>
     ensures value { IfSome result (λ v. v ≡ value) }
     ensures some { IsSome result ↔ IsAtMost value most }
 {
-    let bound = most as i64;
-    if value < -bound {
-        return None;
-    }
-    if value > bound {
+    if !is_at_most(value, most) {
         return None;
     }
     Some(value)

@@ -22,7 +22,7 @@ returns c =
     let n_size = c.requires.n_in_range.size in
     let size : IsAtMost (rounded n (pos (2 ^ k))) (2 ^ 61) = record { size = omega (arith, no_larger, n_size) } in
     let twice : to_z w64 (of_z w64 (pos 2 *ℤ to_z w64 (of_z w64 n))) ≡ pos 2 *ℤ n = code_is (search codes depth 12) tt in
-    let added : to_z w64 (1 * 2 ^ k % 2 ^ 64) ≡ pos (2 ^ k) = shifted_is k c.requires.k_in_range in
+    let added : to_z w64 (1 * 2 ^ k % 2 ^ 64) ≡ pos (2 ^ k) = shifted_is k (let most = c.requires.k_in_range in omega (arith, most)) in
     let sum : to_z w64 (of_z w64 (pos 2 *ℤ n +ℤ pos (2 ^ k))) ≡ pos 2 *ℤ n +ℤ pos (2 ^ k) = code_is (search codes depth 12) tt in
     let held : to_z w64 (of_z w64 (rounded n (pos (2 ^ k)))) ≡ rounded n (pos (2 ^ k)) = code_is (search codes depth 4) tt in
     let is =
