@@ -1,8 +1,9 @@
 -- A particle whose path ends in its tile stays in the box, where nothing has to be wrapped.
-use Rattle.std.proofs.Common.{◌≡◌, ℕ, ◌+◌, ◌*◌, ◌^◌, ◌<◌, ◌≤◌, ◌∙◌, subst, arith}
+use Rattle.std.proofs.Common.{◌≡◌, ℕ, ◌+◌, ◌*◌, ◌/◌, ◌%◌, ◌^◌, ◌<◌, ◌≤◌, ◌∙◌, ap, sym, subst, arith}
 use Rattle.std.proofs.Math.IntN.{ℤ, pos, negsuc, ◌+ℤ◌, ◌*ℤ◌}
 use Rattle.std.proofs.Math.Nat.{mul-le-mul_right}
 use Rattle.std.proofs.lemmas.Int.{ints}
+use Rattle.std.proofs.lemmas.Nat.{div-add-mod', mod_below}
 use Rattle.std.specs.Prelude.{◌≤ℤ◌, ◌<ℤ◌}
 use Rattle.pic_num.proofs.RoundingLaws.{residue-unique}
 use Rattle.pic_num.proofs.SizeLaws.{times_at_most}
@@ -15,13 +16,15 @@ use Rattle.pic_block.proofs.CellLaws.{cell_of_within}
 use Rattle.pic_block.specs.Among.{IsOneOf}
 use Rattle.pic_block.specs.Block.{InZone}
 use Rattle.pic_block.specs.Cells.{count_of, cell_of}
+use Rattle.pic_grid.proofs.FloorLaws.{floor_is}
 use Rattle.pic_grid.proofs.PathLaws.{floor_low, floor_high}
 use Rattle.pic_grid.specs.Hat.{IsInBox, HasTwo}
+use Rattle.pic_grid.specs.Parts.{part_with, corner_of}
 use Rattle.pic_grid.specs.Path.{floor_of, floor_cell}
 use Rattle.pic_grid.specs.PushPhase.{Surroundings}
-use Rattle.pic_tile.proofs.LeavingLaws.{tile_below}
+use Rattle.pic_tile.proofs.LeavingLaws.{tile_below, tile_place}
 use Rattle.pic_tile.specs.Layers.{lowest_cell}
-use Rattle.pic_tile.specs.Owners.{tile_of}
+use Rattle.pic_tile.specs.Owners.{cell_of_point, tile_of}
 use Rattle.pic_tile.specs.Tiling.{Tiling, cells_of}
 use Rattle.pic_push.specs.declared.charged_path.Path.{Path}
 use Rattle.pic_push.specs.Paths.{IsPathOf, StaysInBox, path_end}
@@ -35,6 +38,31 @@ as_it_was p len r is below =
 pub no_large : (side n : ℕ) (p : ℤ) → side ≤ most_side → n ≤ most_cells_of_axis → IsOneOf (pos 0) (n * side) p → p <ℤ pos (2 ^ 31)
 no_large side n p most few on =
     let length = times_at_most n side most_cells_of_axis most_side few most in let below = on.1 in omega (arith, ints, length, below)
+
+-- on one axis the cell of a position is among those of its tile
+begins_on : (side n p : ℕ) → 0 < n → IsOneOf (pos (p / side / n * n)) n (floor_of side (pos p))
+begins_on side n p thick =
+    let c = p / side in
+    let rest : c % n < n = mod_below c n thick in
+    let whole : c / n * n + c % n ≡ c = div-add-mod' c n in
+    let is : floor_of side (pos p) ≡ pos c = floor_is side p in
+    (omega (arith, ints, is, whole), omega (arith, ints, is, whole, rest))
+
+-- so a particle of a tile lies in one of its cells
+pub begins : (m : Tiling) (x : Particle) (tile : ℕ) (low : Spot) (size : Triple) → 0 < m.side → HasTwo m.size → IsInBox m.side (cells_of m) (triple x.x)
+    → tile_of m x ≡ tile → low ≡ lowest_cell m tile → size ≡ m.size → InZone low size (floor_cell m.side (unwrapped (triple x.x)))
+begins m x tile low size some thick place own at layers =
+    let p = triple x.x in
+    let cell = floor_cell m.side (unwrapped p) in
+    let on_x = begins_on m.side m.size.x p.x (let two = thick.x in omega (arith, two)) in
+    let on_y = begins_on m.side m.size.y p.y (let two = thick.y in omega (arith, two)) in
+    let on_z = begins_on m.side m.size.z p.z (let two = thick.z in omega (arith, two)) in
+    let corner = corner_of m.size (part_with m.size (cell_of_point m.side p)) in
+    let is : low ≡ corner = at ∙ ap (lowest_cell m) (sym own) ∙ ap (corner_of m.size) (tile_place m x some thick place) in
+    let inside : InZone corner m.size cell =
+    record { x_low = on_x.0; x_high = on_x.1; y_low = on_y.0; y_high = on_y.1; z_low = on_z.0; z_high = on_z.1 }
+    in
+    subst (λ (n : Triple). InZone low n cell) (sym layers) (subst (λ (l : Spot). InZone l m.size cell) (sym is) inside)
 
 -- on an axis of k tiles of n cells: one whose cell is among those of a tile is on the axis
 stays_on : (side k n t : ℕ) (p c : ℤ) → t < k → (c *ℤ pos side) ≤ℤ p → p <ℤ (c *ℤ pos side +ℤ pos side) → pos (t * n) ≤ℤ c → c <ℤ (pos (t * n) +ℤ pos n)

@@ -28,6 +28,10 @@ pub record IsPath (p : Path) : Type 0 where
 abbrev pub flux_along : Path → Axis → Spot → ℤ
 flux_along p a c = path_flux p.sub p.charge (path p.sub (unwrapped (triple p.from)) (spot p.by)) a c
 
+-- the cell of its start
+abbrev pub path_start : Path → Spot
+path_start p = floor_cell p.sub (unwrapped (triple p.from))
+
 -- the cell of its end, which isn't wrapped
 abbrev pub path_end : Path → Spot
 path_end p = floor_cell p.sub (plus (unwrapped (triple p.from)) (spot p.by))

@@ -83,12 +83,12 @@ fn follow<const WAY: u32>(
         SendsOut w frame.now.map (particle_of node.value) tile.old tile.new }
 {
     let path = path_of(frame, &node.particle(), by);
-    send_flux::<WAY>(&path, zone, tile, own);
+    let stays = send_flux::<WAY>(&path, zone, tile, own);
     let end = path.end();
     let (sub, cells) = (frame.cells().sub(), frame.cells());
     let mut node = node;
-    if is_here(zone, end) {
-        frame.sound();
+    frame.sound();
+    if is_here(zone, end, stays) {
         advance_within(sub, cells, by, &mut node);
         own.chain.push(node);
         return;

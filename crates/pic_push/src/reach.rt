@@ -152,15 +152,19 @@ pub(crate) fn way_to(zone: Zone, cell: [i32; 3]) -> Dir
     Dir::of(step_x + 3 * step_y + 9 * step_z)
 }
 
-/// Whether a cell is one of a zone's, by one test.
+/// Whether a cell is one of a zone's, by one test, where `known` doesn't say so already.
 #[inline(always)]
-pub(crate) fn is_here(zone: Zone, cell: [i32; 3]) -> bool
+pub(crate) fn is_here(zone: Zone, cell: [i32; 3], known: bool) -> bool
+    requires { IsTrue known → InZone (spot zone.low) (triple zone.size) (spot cell) }
     ensures { IsTrue result → InZone (spot zone.low) (triple zone.size) (spot cell) }
 {
     let [low_x, low_y, low_z] = zone.low;
     let [nx, ny, nz] = zone.size;
     let [x, y, z] = cell;
     let (x, y, z) = (i64::from(x), i64::from(y), i64::from(z));
+    if known {
+        return true;
+    }
     is_among(low_x, nx, x) & is_among(low_y, ny, y) & is_among(low_z, nz, z)
 }
 

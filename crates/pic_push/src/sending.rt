@@ -1,6 +1,6 @@
 //! The flux that a particle's path sends through the layers of its tile.
 
-ghost use Rattle.std.specs.Prelude.{◌≡◌, ℕ, IfOk, take};
+ghost use Rattle.std.specs.Prelude.{◌≡◌, ℕ, IsTrue, take};
 ghost use Rattle.std.specs.List.{All};
 ghost use Rattle.pic_num.specs.Limits.{most_charge};
 ghost use Rattle.pic_num.specs.Sizes.{IsAtMost};
@@ -15,7 +15,7 @@ ghost use Rattle.pic_tile.specs.Directions.{here};
 ghost use Rattle.pic_tile.specs.Frame.{felt_in};
 ghost use Rattle.pic_tile.specs.Tiling.{cells_of};
 ghost use Rattle.pic_push.specs.Gains.{Gained, Gains};
-ghost use Rattle.pic_push.specs.Paths.{IsPath, IsPathOf, flux_along};
+ghost use Rattle.pic_push.specs.Paths.{IsPath, IsPathOf, flux_along, path_start, path_end};
 ghost use Rattle.pic_push.specs.Region.{IsUp, AreUps, IsLastOn};
 ghost use Rattle.pic_push.specs.Sends.{HasHeadroom, HasParcels, HasLayers, HasParcelsWithin, most_path_flux, most_sent};
 
@@ -62,28 +62,28 @@ fn send_piece(sub: Sub, piece: &Segment, q: i32, zone: Zone, tile: &mut Tile, ow
 {
     match region_of(zone, piece.cell) {
         Region::Inside => deposit_inside(sub, piece, q, &mut own.flux),
-        Region::FaceX => send_at_face::<UP_X>(sub, piece, q, tile, own),
-        Region::FaceY => send_at_face::<UP_Y>(sub, piece, q, tile, own),
-        Region::FaceZ => send_at_face::<UP_Z>(sub, piece, q, tile, own),
-        Region::EdgeX => send_at_edge::<UP_Y, UP_Z, UP_YZ>(sub, piece, q, tile, own),
-        Region::EdgeY => send_at_edge::<UP_Z, UP_X, UP_XZ>(sub, piece, q, tile, own),
-        Region::EdgeZ => send_at_edge::<UP_X, UP_Y, UP_XY>(sub, piece, q, tile, own),
-        Region::Elsewhere => send_anywhere(sub, piece, q, tile, own),
+        Region::FaceX => send_at_face::<UP_X>(sub, *piece, q, tile, own),
+        Region::FaceY => send_at_face::<UP_Y>(sub, *piece, q, tile, own),
+        Region::FaceZ => send_at_face::<UP_Z>(sub, *piece, q, tile, own),
+        Region::EdgeX => send_at_edge::<UP_Y, UP_Z, UP_YZ>(sub, *piece, q, tile, own),
+        Region::EdgeY => send_at_edge::<UP_Z, UP_X, UP_XZ>(sub, *piece, q, tile, own),
+        Region::EdgeZ => send_at_edge::<UP_X, UP_Y, UP_XY>(sub, *piece, q, tile, own),
+        Region::Elsewhere => send_anywhere(sub, *piece, q, tile, own),
     }
 }
 
 /// The same for a piece whose cell is at a face of the tile, over which `UP` steps.
-fn send_at_face<const UP: u32>(sub: Sub, piece: &Segment, q: i32, tile: &mut Tile, own: &mut Parcel)
-    requires inside { IsInCell sub piece.now }
+fn send_at_face<const UP: u32>(sub: Sub, piece: Segment, q: i32, tile: &mut Tile, own: &mut Parcel)
+    requires inside { IsInCell sub piece }
     requires charge { IsAtMost q most_charge }
     requires up { IsUp UP }
-    requires face { IsLastOn UP own.old.flux.low own.old.flux.size piece.now.cell }
+    requires face { IsLastOn UP own.old.flux.low own.old.flux.size piece.cell }
     requires open { HasParcelsWithin most_sent own.old.flux.low own.old.flux.size tile.old }
     requires room { AllAtMost most_sent own.old.flux }
-    ensures own { Gained (flux sub q piece.now) own.old own.new }
-    ensures others { Gains (flux sub q piece.now) tile.old tile.new }
+    ensures own { Gained (flux sub q piece) own.old own.new }
+    ensures others { Gains (flux sub q piece) tile.old tile.new }
 {
-    let flux = CellFlux::of(sub, piece, q);
+    let flux = CellFlux::of(sub, &piece, q);
     add_at_face::<UP>(&flux, tile, own);
 }
 
@@ -91,34 +91,34 @@ fn send_at_face<const UP: u32>(sub: Sub, piece: &Segment, q: i32, tile: &mut Til
 /// there, and `FAR` over both.
 fn send_at_edge<const SECOND: u32, const THIRD: u32, const FAR: u32>(
     sub: Sub,
-    piece: &Segment,
+    piece: Segment,
     q: i32,
     tile: &mut Tile,
     own: &mut Parcel,
 )
-    requires inside { IsInCell sub piece.now }
+    requires inside { IsInCell sub piece }
     requires charge { IsAtMost q most_charge }
     requires ups { AreUps SECOND THIRD FAR }
-    requires edge { IsLastOn FAR own.old.flux.low own.old.flux.size piece.now.cell }
+    requires edge { IsLastOn FAR own.old.flux.low own.old.flux.size piece.cell }
     requires open { HasParcelsWithin most_sent own.old.flux.low own.old.flux.size tile.old }
     requires room { AllAtMost most_sent own.old.flux }
-    ensures own { Gained (flux sub q piece.now) own.old own.new }
-    ensures others { Gains (flux sub q piece.now) tile.old tile.new }
+    ensures own { Gained (flux sub q piece) own.old own.new }
+    ensures others { Gains (flux sub q piece) tile.old tile.new }
 {
-    let flux = CellFlux::of(sub, piece, q);
+    let flux = CellFlux::of(sub, &piece, q);
     add_at_edge::<SECOND, THIRD, FAR>(&flux, tile, own);
 }
 
 /// The same for one whose cell is anywhere.
-fn send_anywhere(sub: Sub, piece: &Segment, q: i32, tile: &mut Tile, own: &mut Parcel)
-    requires inside { IsInCell sub piece.now }
+fn send_anywhere(sub: Sub, piece: Segment, q: i32, tile: &mut Tile, own: &mut Parcel)
+    requires inside { IsInCell sub piece }
     requires charge { IsAtMost q most_charge }
     requires open { HasParcelsWithin most_sent own.old.flux.low own.old.flux.size tile.old }
     requires room { AllAtMost most_sent own.old.flux }
-    ensures own { Gained (flux sub q piece.now) own.old own.new }
-    ensures others { Gains (flux sub q piece.now) tile.old tile.new }
+    ensures own { Gained (flux sub q piece) own.old own.new }
+    ensures others { Gains (flux sub q piece) tile.old tile.new }
 {
-    let flux = CellFlux::of(sub, piece, q);
+    let flux = CellFlux::of(sub, &piece, q);
     add_anywhere(&flux, piece.cell, tile, own);
 }
 
@@ -139,16 +139,22 @@ fn send_track(sub: Sub, track: &Track, q: i32, zone: Zone, tile: &mut Tile, own:
     }
 }
 
-/// Adds the flux of a path to all parcels of a tile, of which that of no step is held apart. Most
-/// paths stay in a cell.
+/// Adds the flux of a path to all parcels of a tile, of which that of no step is held apart, and
+/// answers true where the path stays in a cell, as most do, and false where it is cut.
 // Each `WAY` is compiled by itself, so that the way of most particles has it in its own code.
 #[inline(always)]
-pub(crate) fn send_flux<const WAY: u32>(path: &Path, zone: Zone, tile: &mut Tile, own: &mut Parcel)
+pub(crate) fn send_flux<const WAY: u32>(
+    path: &Path,
+    zone: Zone,
+    tile: &mut Tile,
+    own: &mut Parcel,
+) -> bool
     requires path { IsPath path.now }
     requires open { HasParcels (spot zone.low) (triple zone.size) tile.old }
     requires room { HasHeadroom (spot zone.low) (triple zone.size) here own.old }
     ensures own { Gained (flux_along path.now) own.old own.new }
     ensures others { Gains (flux_along path.now) tile.old tile.new }
+    ensures stays { IsTrue result → path_end path.now ≡ path_start path.now }
 {
     let Path {
         sub,
@@ -158,10 +164,14 @@ pub(crate) fn send_flux<const WAY: u32>(path: &Path, zone: Zone, tile: &mut Tile
     } = *path;
     let _side = sub.side();
     match lone(sub, from, by) {
-        Some(piece) => send_piece(sub, &piece, charge, zone, tile, own),
+        Some(piece) => {
+            send_piece(sub, &piece, charge, zone, tile, own);
+            true
+        }
         None => {
             let track = split(sub, from, by);
             send_track(sub, &track, charge, zone, tile, own);
+            false
         }
     }
 }

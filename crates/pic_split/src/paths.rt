@@ -13,6 +13,7 @@ ghost use Rattle.std.specs.Prelude.{
   EachIndex,
   IsTrue,
   IfSome,
+  IsSome,
   ◌↔◌,
 };
 ghost use Rattle.std.specs.List.{All};
@@ -52,6 +53,9 @@ pub fn lone(sub: Sub, p0: [u32; 3], d: [i32; 3]) -> Option<Segment>
     requires small { AreAtMost (spot d) sub }
     ensures piece { result ≡ lone_piece (path sub (unwrapped (triple p0)) (spot d)) }
     ensures inside { IfSome result (IsInCell sub) }
+    ensures stays { IsSome result
+        → floor_cell sub (plus (unwrapped (triple p0)) (spot d))
+        ≡ floor_cell sub (unwrapped (triple p0)) }
 {
     let p = unwrapped(p0);
     let _side = sub.side();

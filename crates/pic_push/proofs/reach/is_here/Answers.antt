@@ -3,6 +3,9 @@ use Rattle.std.proofs.lemmas.Bool.{and_parts}
 use Rattle.std.proofs.lemmas.Int.{ints}
 use Rattle.pic_push.proofs.reach.is_here.Goals as goal
 
+pub returns-then-known : goal.returns-then-known
+returns-then-known c = λ here. c.requires c.if-known.true
+
 pub returns : goal.returns
 returns c = λ here.
     let outer = and_parts (c.is_among.result && c.is_among-2.result) c.is_among-3.result here in

@@ -10,7 +10,7 @@ use Rattle.pic_push.proofs.sending.send_anywhere.Goals as goal
 
 pub add_anywhere-requires-clause-can : goal.add_anywhere-requires-clause-can
 add_anywhere-requires-clause-can c =
-    let s = c.args.piece.now in
+    let s = c.args.piece in
     let f = c.of-flux.result in
     let same = same_charge c.args.sub s f c.args.q _ (to_z-of_z w32 c.args.q c.ranges.q) c.of-flux.ensures.flux in
     can_take c.args.sub c.args.q s f c.args.own.now c.args.tile.now c.requires.inside same c.of-flux.ensures.cell c.of-flux.ensures.modest c.requires.open
@@ -21,14 +21,14 @@ add_anywhere-requires-clause-cell c = c.of-flux.ensures.cell ∙ sym (ap (λ (t 
 
 pub returns-clause-own : goal.returns-clause-own
 returns-clause-own c =
-    let s = c.args.piece.now in
+    let s = c.args.piece in
     let f = c.of-flux.result in
     gained_same (edge_flux f) (flux c.args.sub c.args.q s) c.args.own.now c.add_anywhere.new.own
     (same_charge c.args.sub s f c.args.q _ (to_z-of_z w32 c.args.q c.ranges.q) c.of-flux.ensures.flux) c.add_anywhere.ensures.own
 
 pub returns-clause-others : goal.returns-clause-others
 returns-clause-others c =
-    let s = c.args.piece.now in
+    let s = c.args.piece in
     let f = c.of-flux.result in
     gains_same (edge_flux f) (flux c.args.sub c.args.q s) c.args.tile.now c.add_anywhere.new.tile
     (same_charge c.args.sub s f c.args.q _ (to_z-of_z w32 c.args.q c.ranges.q) c.of-flux.ensures.flux) c.add_anywhere.ensures.others

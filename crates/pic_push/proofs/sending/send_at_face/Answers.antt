@@ -11,7 +11,7 @@ use Rattle.pic_push.proofs.sending.send_at_face.Goals as goal
 
 pub add_at_face-requires : goal.add_at_face-requires
 add_at_face-requires g c =
-    let s = c.args.piece.now in
+    let s = c.args.piece in
     let f = c.of-flux.result in
     let own = c.args.own.now in
     let same = same_charge c.args.sub s f c.args.q _ (to_z-of_z w32 c.args.q c.ranges.q) c.of-flux.ensures.flux in
@@ -24,14 +24,14 @@ add_at_face-requires g c =
 
 pub returns-clause-own : goal.returns-clause-own
 returns-clause-own g c =
-    let s = c.args.piece.now in
+    let s = c.args.piece in
     let f = c.of-flux.result in
     gained_same (edge_flux f) (flux c.args.sub c.args.q s) c.args.own.now c.add_at_face.new.own
     (same_charge c.args.sub s f c.args.q _ (to_z-of_z w32 c.args.q c.ranges.q) c.of-flux.ensures.flux) c.add_at_face.ensures.own
 
 pub returns-clause-others : goal.returns-clause-others
 returns-clause-others g c =
-    let s = c.args.piece.now in
+    let s = c.args.piece in
     let f = c.of-flux.result in
     gains_same (edge_flux f) (flux c.args.sub c.args.q s) c.args.tile.now c.add_at_face.new.tile
     (same_charge c.args.sub s f c.args.q _ (to_z-of_z w32 c.args.q c.ranges.q) c.of-flux.ensures.flux) c.add_at_face.ensures.others

@@ -55,3 +55,8 @@ returns-clause-inside c =
     let some : 0 < c.args.sub = omega (arith, c.side-side.ensures.least) in
     lead_inside c.args.sub (floor_cell c.args.sub p) (floor_cell c.args.sub (plus p d)) p (plus p d) c.segment.result
     (subst (LeadBy c.args.sub p d) (is_path (goal.at.returns-clause-inside c).After-segment) (path_leads c.args.sub p d some c.requires.small))
+
+pub returns-clause-stays : goal.returns-clause-stays
+returns-clause-stays c =
+    let at = cells (goal.at.returns-clause-stays c).After-cell in
+    λ some. sym at.last ∙ sym (c.if-not-is_same.ensures.0 refl) ∙ at.first
