@@ -2,3 +2,4 @@ mod DealtLaws
 mod EmptiedLaws
 mod LaidLaws
 mod ShelfLaws
+pub mod PartLaws

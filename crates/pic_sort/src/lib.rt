@@ -1,6 +1,8 @@
-//! Particles sorted: those of a tile lie side by side in memory again, as when the run began.
+//! Particles sorted: those of a tile lie side by side in memory again, in the order of their cells, as
+//! when the run began.
 #![tactic(auto)]
 
+mod cell_order;
 mod dealing;
 mod emptying;
 mod shelves;
