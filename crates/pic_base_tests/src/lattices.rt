@@ -99,6 +99,7 @@ fn measured_layers_are_weak_until_they_are_written(rt: HostRuntime) -> Result<()
     let mut blocks = field.into_blocks();
     blocks[0].measure();
     blocks[1].measure();
+    assert_eq!(rt; (blocks[0].is_weak(), blocks[1].is_weak()), (true, false));
     let mut field = Lattice::of_blocks(cells, [1, 1, 2], blocks);
     assert_eq!(rt; are_weak(&field), Some([true, false]));
     assert_eq!(rt; field.at(Axis::X, [1, 2, 0]), (1 << 26) - 1);

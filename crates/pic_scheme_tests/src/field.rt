@@ -8,8 +8,8 @@ ghost use Rattle.pic_block.specs.Block.{IsAmongCells};
 use crate::values::{Edge, MAX_DRIVE, MAX_VALUE, Value, block_of, lattice_in, lattice_of, read};
 use pic_block::{Block, Zone};
 use pic_field::{Rooms, both_halves_in, force, free_e_in, full_e, full_e_in, half_b};
-use pic_grid::{Bound, Phase, Stop};
-use pic_num::{Axis, Mult, NoMemory, Scales};
+use pic_grid::{Bound, Cells, Phase, Stop};
+use pic_num::{Axis, Mult, NoMemory, Scales, Sub};
 use std::alloc::Global;
 use std::process::Abort;
 
@@ -61,7 +61,8 @@ fn current_step(
     current: &[Value],
 ) -> Result<(Block, Result<(), Stop>), NoMemory> {
     let b = lattice_of(alloc, [4, 4, 4], MAX_VALUE, &[])?;
-    let j = lattice_in(alloc, [4, 4, 4], [2, 2, 2], MAX_VALUE, current)?;
+    let cells = Cells::new([4, 4, 4], Sub::of_bits(12));
+    let j = lattice_in(alloc, cells, [2, 2, 2], MAX_VALUE, current)?;
     let mut e = block_of(alloc, TWO_LAYERS, &[])?;
     let answer = full_e_in(scales, &b, &j, &mut e, &mut Rooms::new());
     Ok((e, answer))

@@ -6,23 +6,12 @@ ghost use Rattle.pic_grid.specs.Hat.{IsInBox};
 ghost use Rattle.pic_grid.specs.Lattice.{IsParts};
 ghost use Rattle.pic_gather.specs.Forces.{AreForces};
 
+use crate::values::{MAX_FORCE, lattice_in};
 use pic_gather::{Gathered, gather, gather_b, gather_e, gather_weak, is_weak};
 use pic_grid::{Cells, Lattice};
 use pic_num::{Axis, NoMemory, Sub};
 use std::alloc::Global;
 use std::process::Abort;
-
-/// A lattice with a part for each layer of z and one value, in the first cell.
-fn lone(alloc: Global, cells: Cells, axis: Axis, value: i32) -> Result<Lattice, NoMemory>
-    ensures forces { IfOk result AreForces }
-    ensures cells { IfOk result (λ f. f.cells ≡ cells.n) }
-    ensures side { IfOk result (λ f. f.side ≡ cells.side) }
-{
-    let [_, _, nz] = cells.numbers();
-    let mut force = Lattice::new(alloc, cells, [1, 1, nz])?;
-    force.set(axis, [0, 0, 0], i128::from(value));
-    Ok(force)
-}
 
 /// Whether a point lies in the box.
 fn is_in_box(cells: Cells, point: [u32; 3]) -> bool
@@ -34,7 +23,8 @@ fn is_in_box(cells: Cells, point: [u32; 3]) -> bool
     x < nx * side && y < ny * side && z < nz * side
 }
 
-// A lattice of n by n by n cells of these sides with one value, in the first cell, and a point of it.
+// A lattice of n by n by n cells of these sides, with a part for each layer of z and one value, in the
+// first cell, and a point of it.
 fn lone_at(
     rt: &(impl AllocGlobal + Abort),
     bits: u32,
@@ -49,7 +39,9 @@ fn lone_at(
     let sub = Sub::new(bits).expect(rt, "a side");
     let cells = Cells::try_new([n; 3], sub).expect(rt, "a grid");
     assert!(rt; is_in_box(cells, point));
-    lone(rt.alloc(), cells, axis, value).expect(rt, "memory")
+    let [_, _, nz] = cells.numbers();
+    let values = [(axis, [0, 0, 0], i128::from(value))];
+    lattice_in(rt.alloc(), cells, [1, 1, nz], MAX_FORCE, &values).expect(rt, "memory")
 }
 
 // the side of a cell as a power of 2, the cells of an axis, the value on x, the point, and what is
@@ -108,9 +100,8 @@ fn eight_in(alloc: Global, sub: Sub, parts: [u32; 3], axis: Axis) -> Result<Latt
     ensures side { IfOk result (λ f. f.side ≡ sub) }
     ensures parts { IfOk result (λ f. f.parts ≡ triple parts) }
 {
-    let mut force = Lattice::new(alloc, Cells::new([2, 2, 2], sub), parts)?;
-    force.set(axis, [0, 0, 0], 8);
-    Ok(force)
+    let cells = Cells::new([2, 2, 2], sub);
+    lattice_in(alloc, cells, parts, MAX_FORCE, &[(axis, [0, 0, 0], 8)])
 }
 
 // What is gathered at a point of a lattice in these parts: x of an 8 on x, and y of an 8 on y.

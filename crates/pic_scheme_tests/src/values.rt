@@ -16,32 +16,35 @@ pub(crate) type Value = (Axis, [u32; 3], i128);
 
 pub(crate) type Edge = (Axis, [i32; 3], i128);
 
-// The greatest size of a value, and of one that drives B.
+// The greatest size of a value, of a force value, and of a value that drives B.
 pub(crate) const MAX_VALUE: u128 = 1 << 90;
+
+pub(crate) const MAX_FORCE: u128 = 1 << 44;
 
 pub(crate) const MAX_DRIVE: u128 = 1 << 64;
 
 // A lattice of zeros in so many parts but for these values, as far as they are at most `most` in size.
 pub(crate) fn lattice_in(
     alloc: Global,
-    n: [u32; 3],
+    cells: Cells,
     parts: [u32; 3],
     most: u128,
     values: &[Value],
 ) -> Result<Lattice, NoMemory>
-    requires cells { IsCells (triple n) }
-    requires parts { IsParts (triple n) (triple parts) }
-    ensures cells { IfOk result (λ f. f.cells ≡ triple n) }
+    requires { IsParts cells.n (triple parts) }
+    ensures cells { IfOk result (λ f. f.cells ≡ cells.n) }
+    ensures side { IfOk result (λ f. f.side ≡ cells.side) }
+    ensures parts { IfOk result (λ f. f.parts ≡ triple parts) }
     ensures small { IfOk result (EachAtMost most) }
 {
-    let mut field = Lattice::new(alloc, Cells::new(n, Sub::of_bits(12)), parts)?;
+    let mut field = Lattice::new(alloc, cells, parts)?;
     for (axis, cell, value) in values {
         put(&mut field, most, *axis, *cell, *value);
     }
     Ok(field)
 }
 
-// The same in one part.
+// The same in one part, in cells of 2^12 sub-cells.
 pub(crate) fn lattice_of(
     alloc: Global,
     n: [u32; 3],
@@ -52,12 +55,14 @@ pub(crate) fn lattice_of(
     ensures cells { IfOk result (λ f. f.cells ≡ triple n) }
     ensures small { IfOk result (EachAtMost most) }
 {
-    lattice_in(alloc, n, [1; 3], most, values)
+    lattice_in(alloc, Cells::new(n, Sub::of_bits(12)), [1; 3], most, values)
 }
 
 fn put(field: &mut Lattice, most: u128, axis: Axis, cell: [u32; 3], value: i128)
     requires { EachAtMost most field.old }
     ensures cells { field.new.cells ≡ field.old.cells }
+    ensures side { field.new.side ≡ field.old.side }
+    ensures parts { field.new.parts ≡ field.old.parts }
     ensures small { EachAtMost most field.new }
 {
     let [nx, ny, nz] = field.cells().numbers();
