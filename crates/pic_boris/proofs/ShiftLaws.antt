@@ -7,18 +7,15 @@ use mir.Syntax.{w64}
 use mir.Val.{to_z}
 use Rattle.pic_num.specs.Sizes.{IsAtMost}
 
-pub power_60 : (k : ℕ) → k ≤ 60 → IsAtMost (pos (2 ^ k)) (2 ^ 60)
-power_60 k h = record { size = pow_mono h }
-
-pub power_62 : (k : ℕ) → k ≤ 62 → IsAtMost (pos (2 ^ k)) (2 ^ 62)
-power_62 k h = record { size = pow_mono h }
+pub power_at_most : (most k : ℕ) → k ≤ most → IsAtMost (pos (2 ^ k)) (2 ^ most)
+power_at_most most k h = record { size = pow_mono h }
 
 -- what the code's `1 << k` is
-pub shifted_60 : (k : ℕ) → k ≤ 60 → 1 * 2 ^ k % 2 ^ 64 ≤ 2 ^ 60
-shifted_60 k h = let most : 2 ^ k ≤ 2 ^ 60 = pow_mono h in omega (arith, most)
-
-pub shifted_62 : (k : ℕ) → k ≤ 62 → 1 * 2 ^ k % 2 ^ 64 ≤ 2 ^ 62
-shifted_62 k h = let most : 2 ^ k ≤ 2 ^ 62 = pow_mono h in omega (arith, most)
+pub shifted_at_most : (most k : ℕ) → k ≤ most → most ≤ 62 → 1 * 2 ^ k % 2 ^ 64 ≤ 2 ^ most
+shifted_at_most most k h few =
+    let less : 2 ^ k ≤ 2 ^ most = pow_mono h in
+    let fits : 2 ^ most ≤ 2 ^ 62 = pow_mono few in
+    omega (arith, less, fits)
 
 pub shifted_is : (k : ℕ) → k ≤ 62 → to_z w64 (1 * 2 ^ k % 2 ^ 64) ≡ pos (2 ^ k)
 shifted_is k h =

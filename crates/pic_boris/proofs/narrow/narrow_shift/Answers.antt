@@ -5,19 +5,19 @@ use Rattle.pic_num.specs.Rounding.{rounded}
 use Rattle.pic_num.specs.Sizes.{IsAtMost}
 use Rattle.pic_num.proofs.RoundingLaws.{power_above_zero, rounded-no_larger, rounded-shr}
 use Rattle.pic_num.proofs.SizeLaws.{codes, code_fits, code_is}
-use Rattle.pic_boris.proofs.ShiftLaws.{power_60, shifted_60, shifted_is}
+use Rattle.pic_boris.proofs.ShiftLaws.{power_at_most, shifted_at_most, shifted_is}
 use Rattle.pic_boris.proofs.narrow.narrow_shift.Goals as goal
 
 pub overflow_add-result : goal.overflow_add-result
 overflow_add-result c =
-    let power = shifted_60 c.args.k c.requires.k_in_range in
+    let power = shifted_at_most 60 c.args.k c.requires.k_in_range (omega arith) in
     code_fits w64 (search codes depth 12) tt
 
 pub returns : goal.returns
 returns c =
     let n = c.args.n in
     let k = c.args.k in
-    let power : IsAtMost (pos (2 ^ k)) (2 ^ 60) = power_60 k c.requires.k_in_range in
+    let power : IsAtMost (pos (2 ^ k)) (2 ^ 60) = power_at_most 60 k c.requires.k_in_range in
     let no_larger = rounded-no_larger n (pos (2 ^ k)) (power_above_zero k) in
     let n_size = c.requires.n_in_range.size in
     let size : IsAtMost (rounded n (pos (2 ^ k))) (2 ^ 61) = record { size = omega (arith, no_larger, n_size) } in

@@ -6,7 +6,7 @@ use Rattle.pic_num.specs.Sizes.{IsAtMost}
 use Rattle.pic_num.specs.Rounding.{scaled}
 use Rattle.pic_num.proofs.SizeLaws.{codes, code_fits, code_is, code_at_most}
 use Rattle.pic_num.proofs.RoundingLaws.{scaled-shr, scaled-no_larger}
-use Rattle.pic_boris.proofs.ShiftLaws.{power_62, shifted_62, shifted_is}
+use Rattle.pic_boris.proofs.ShiftLaws.{power_at_most, shifted_at_most, shifted_is}
 use Rattle.pic_boris.proofs.narrow.scale_narrow.Goals as goal
 
 -- the multiplier's n, widened by the code
@@ -17,7 +17,7 @@ pub overflow_add-result : goal.overflow_add-result
 overflow_add-result c =
     let n_is = widened c.n.result c.from-n.result c.from-n.ensures c.n.ensures.size in
     let n_size : IsAtMost c.from-n.result (2 ^ 31 - 1) = subst (λ (z : ℤ). IsAtMost z (2 ^ 31 - 1)) (sym n_is) c.n.ensures.size in
-    let power = shifted_62 c.k-k.result c.k-k.ensures.most in
+    let power = shifted_at_most 62 c.k-k.result c.k-k.ensures.most (omega arith) in
     code_fits w64 (search codes depth 20) tt
 
 pub returns : goal.returns
@@ -31,7 +31,7 @@ returns c =
     let product : IsAtMost (v *ℤ by.n) (2 ^ 28 * (2 ^ 31 - 1)) = code_at_most (search codes depth 6) tt in
     let no_larger = scaled-no_larger v by in
     let size : IsAtMost (scaled v by) (2 ^ 60) = record { size = omega (arith, no_larger, product.size) } in
-    let power : IsAtMost (pos (2 ^ by.k)) (2 ^ 62) = power_62 by.k most in
+    let power : IsAtMost (pos (2 ^ by.k)) (2 ^ 62) = power_at_most 62 by.k most in
     let twice : to_z w64 (of_z w64 (to_z w64 (of_z w64 (pos 2 *ℤ to_z w64 (of_z w64 v))) *ℤ to_z w64 (of_z w64 c.from-n.result))) ≡ pos 2 *ℤ v *ℤ by.n =
     code_is (search codes depth 20) tt ∙ ap (λ (n : ℤ). pos 2 *ℤ v *ℤ n) (n_is ∙ c.n.ensures.value)
     in
