@@ -2,4 +2,3 @@ mod DealtLaws
 mod EmptiedLaws
 mod LaidLaws
 mod ShelfLaws
-pub mod PartLaws

@@ -2,7 +2,6 @@
 //! when the run began.
 #![tactic(auto)]
 
-mod cell_order;
 mod dealing;
 mod emptying;
 mod shelves;

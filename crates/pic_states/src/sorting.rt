@@ -7,8 +7,8 @@ use crate::output::Output;
 use pic_grid::Snapshot;
 use pic_step::State;
 
-/// After how many steps the particles are sorted in memory once more. It takes less than half a step of
-/// one worker; in the steps between, the faster ones leave the tiles in whose memory they lie.
+/// After how many steps the particles are sorted in memory once more. It takes about a sixth of a step of
+/// one worker; in the steps between, the faster ones leave the cells in whose order they lie.
 const STEPS_BETWEEN: u32 = 32;
 
 /// Sorts the particles of a state in memory, where that is due. The state stays as it is. What the room

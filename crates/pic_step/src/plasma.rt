@@ -79,7 +79,7 @@ impl Plasma {
         let frame = frame_for(alloc, map, kinds)?;
         let smooth = smooth_for(alloc, map, filter)?;
         let tracers = tracers_of(alloc, ids, particles)?;
-        let shelves = Shelves::new(alloc, particles.len())?;
+        let shelves = Shelves::new(alloc, particles.len(), map.cells_of_tile())?;
         Ok(Plasma {
             frame,
             tiles,

@@ -1,5 +1,5 @@
 -- A grid cut into equal tiles, boxes of cells that are numbered x fastest, then y, then z.
-use Rattle.std.specs.Prelude.{◌≡◌, ℕ, ◌*◌, ◌≤◌, List, length}
+use Rattle.std.specs.Prelude.{◌≡◌, ℕ, ◌*◌, ◌%◌, ◌≤◌, List, length}
 use Rattle.pic_block.specs.Cells.{Grid, IsCells, IsSize, count_of, index_of, cell_of}
 use Rattle.pic_block.specs.Block.{InZone}
 use Rattle.pic_grid.specs.Hat.{HasTwo}
@@ -50,6 +50,10 @@ IsInTile m tile cell = InZone (corner_of m.size (cell_of m.tiles tile)) m.size (
 -- the tile of a cell
 abbrev pub owner_of : Tiling → Triple → ℕ
 owner_of m cell = index_of m.tiles (part_with m.size cell)
+
+-- the place of a cell in its tile
+abbrev pub place_in_tile : Tiling → Triple → Triple
+place_in_tile m cell = record { x = cell.x % m.size.x; y = cell.y % m.size.y; z = cell.z % m.size.z }
 
 -- the place of the tile that lies next to that at p, by these steps
 abbrev pub place_beside : Triple → Triple → Triple → Triple

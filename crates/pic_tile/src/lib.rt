@@ -13,7 +13,7 @@ mod setup;
 mod tile;
 mod tile_map;
 
-pub use cutting::{cell_number, cut, hand_in, tile_of};
+pub use cutting::{cell_in_tile, cut, hand_in, tile_of};
 pub use dir::Dir;
 pub use frame::Frame;
 pub use kinds::Kinds;

@@ -6,11 +6,11 @@ ghost use Rattle.pic_block.specs.Cells.{IsWithin, count_of, index_of, cell_of};
 ghost use Rattle.pic_grid.specs.Parts.{corner_of};
 ghost use Rattle.pic_grid.specs.Tiles.{AreTiles, most_tiles};
 ghost use Rattle.pic_tile.specs.Directions.{opposite, ring_step};
-ghost use Rattle.pic_tile.specs.Tiling.{IsMap, cells_of, grid_of_tiling, tiles_of, IsInTile, owner_of, neighbour_of};
+ghost use Rattle.pic_tile.specs.Tiling.{IsMap, cells_of, grid_of_tiling, tiles_of, IsInTile, owner_of, neighbour_of, place_in_tile};
 ghost use Rattle.pic_tile.specs.Zones.{IsTileZone};
 
 use crate::dir::Dir;
-use pic_block::Zone;
+use pic_block::{Zone, count_in, index_in};
 use pic_grid::Cells;
 use std::marker::Model;
 
@@ -86,6 +86,24 @@ impl TileMap {
     {
         let [tx, ty, tz] = self.tiles;
         tx * ty * tz
+    }
+
+    /// How many cells each tile has.
+    pub fn cells_of_tile(&self) -> usize
+        ensures { result ≡ count_of self.now.size }
+    {
+        count_in(self.layers)
+    }
+
+    /// The number of `cell` among those of its tile, x fastest, then y, then z.
+    #[inline(always)]
+    pub fn number_in_tile(&self, cell: [u32; 3]) -> usize
+        ensures value { result ≡ index_of self.now.size (place_in_tile self.now (triple cell)) }
+        ensures below { result < count_of self.now.size }
+    {
+        let [nx, ny, nz] = self.layers;
+        let [x, y, z] = cell;
+        index_in(self.layers, [x % nx, y % ny, z % nz])
     }
 
     /// The tile of `cell`, one of the cells.
